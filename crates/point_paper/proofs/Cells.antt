@@ -1,0 +1,76 @@
+-- Lists of cells by a formula.
+use Rattle.std.proofs.Common.{◌≡◌, ◌+◌, ◌*◌, ◌<◌, ◌≤◌, ℕ, zero, suc, List, ◌++◌, length, get_or, take, drop, replicate, sym, ap, ◌∙◌, subst, refl, arith, ⊎_elim, length-append, length-take, length-drop}
+use Rattle.std.proofs.Math.Nat.{suc-mul, mul-le-mul_right}
+use Rattle.std.proofs.lemmas.Bool.{cases_lt}
+use Rattle.std.proofs.lemmas.List.{ext_get_or, get_or_append_left, get_or-append-add, get_or-take, get_or-drop, get_or-replicate, length-replicate, take-append-drop}
+use Rattle.std.proofs.lemmas.List.FromFn.{length-map-range_with_len, get_or-map-range_with_len}
+use Rattle.std.specs.List.{range_with_len}
+use Rattle.point_paper.specs.Papers.{PaperCells, IsPaper, cell_of, line_by, colours_by, paper_by}
+
+pub length-line_by : {A : Type 0} (n : ℕ) (cell : ℕ → A) → length (line_by n cell) ≡ n
+unfolding line_by
+length-line_by n cell = length-map-range_with_len cell 0 n
+
+pub get_or-line_by : {A : Type 0} (n : ℕ) (cell : ℕ → A) (k : ℕ) (d : A) → k < n → get_or (line_by n cell) k d ≡ cell k
+unfolding line_by
+get_or-line_by n cell k d h = get_or-map-range_with_len cell 0 n k k d h (omega arith)
+
+-- a list whose values are the formula's
+pub line_is : {A : Type 0} (d : A) (xs : List A) (n : ℕ) (cell : ℕ → A) → length xs ≡ n → ((k : ℕ) → k < n → get_or xs k d ≡ cell k) → xs ≡ line_by n cell
+line_is d xs n cell long each = ext_get_or d xs (line_by n cell) (long ∙ sym (length-line_by n cell))
+    (λ k h. let below : k < n = omega arith in each k below ∙ sym (get_or-line_by n cell k d below))
+
+-- the place of a cell is among those of the picks below, or in the last one
+pub place_below : (columns picks column pick : ℕ) → column < columns → pick < picks → pick * columns + column < picks * columns
+place_below columns picks column pick c p = omega (arith, suc-mul pick columns, mul-le-mul_right {m = suc pick} {n = picks} columns (omega arith))
+
+pub length-colours_by : (columns picks : ℕ) (cell : ℕ → ℕ → ℕ) → length (colours_by columns picks cell) ≡ picks * columns
+unfolding colours_by
+length-colours_by columns zero cell = omega arith
+length-colours_by columns (suc picks) cell =
+    omega (arith, length-append (colours_by columns picks cell) (line_by columns (λ column. cell column picks)), length-colours_by columns picks cell,
+    length-line_by columns (λ column. cell column picks), suc-mul picks columns)
+
+pub get_or-colours_by : (columns picks : ℕ) (cell : ℕ → ℕ → ℕ) (column pick : ℕ) → column < columns → pick < picks → get_or (colours_by columns picks cell) (pick * columns + column) 0 ≡ cell column pick
+unfolding colours_by
+get_or-colours_by columns zero cell column pick c p = absurd (omega arith)
+get_or-colours_by columns (suc picks) cell column pick c p =
+    let low = colours_by columns picks cell in
+    let top = line_by columns (λ x. cell x picks) in
+    ⊎_elim
+      (λ (h : pick < picks). get_or_append_left low top 0 (pick * columns + column) (subst (λ n. pick * columns + column < n) (sym (length-colours_by columns picks cell)) (place_below columns picks column pick c h))
+      ∙ get_or-colours_by columns picks cell column pick c h)
+      (λ (h : picks ≤ pick).
+      let last : pick ≡ picks = omega arith in
+      ap (λ n. get_or (low ++ top) (n + column) 0) (ap (λ n. n * columns) last ∙ sym (length-colours_by columns picks cell))
+      ∙ get_or-append-add low top column 0 ∙ get_or-line_by columns (λ x. cell x picks) column 0 c ∙ ap (cell column) (sym last))
+      (cases_lt pick picks)
+
+-- a list of as many picks whose cells are the formula's
+pub colours_are : (xs : List ℕ) (columns picks : ℕ) (cell : ℕ → ℕ → ℕ) → length xs ≡ picks * columns
+    → ((column pick : ℕ) → column < columns → pick < picks → get_or xs (pick * columns + column) 0 ≡ cell column pick) → xs ≡ colours_by columns picks cell
+unfolding colours_by
+colours_are xs columns zero cell long each = ext_get_or 0 xs (colours_by columns zero cell) (long ∙ sym (length-colours_by columns zero cell)) (λ k h. absurd (omega (arith, long)))
+colours_are xs columns (suc picks) cell long each =
+    let whole : picks * columns + columns ≡ length xs = omega (arith, suc-mul picks columns) in
+    let low = colours_are (take (picks * columns) xs) columns picks cell (omega (arith, length-take (picks * columns) xs))
+      (λ column pick c p. get_or-take (picks * columns) xs (pick * columns + column) 0 (place_below columns picks column pick c p) ∙ each column pick c (omega arith)) in
+    let top = line_is 0 (drop (picks * columns) xs) columns (λ column. cell column picks) (omega (arith, length-drop (picks * columns) xs))
+      (λ column c. get_or-drop (picks * columns) xs column 0 ∙ each column picks c (omega arith)) in
+    sym (take-append-drop (picks * columns) xs) ∙ ap (λ ys. ys ++ drop (picks * columns) xs) low ∙ ap (λ ys. colours_by columns picks cell ++ ys) top
+
+pub cell_of-paper_by : (columns picks : ℕ) (cell : ℕ → ℕ → ℕ) (column pick : ℕ) → column < columns → pick < picks → cell_of (paper_by columns picks cell) column pick ≡ cell column pick
+cell_of-paper_by columns picks cell column pick c p = get_or-colours_by columns picks cell column pick c p
+
+pub IsPaper-paper_by : (columns picks : ℕ) (cell : ℕ → ℕ → ℕ) → IsPaper (paper_by columns picks cell)
+IsPaper-paper_by columns picks cell = length-colours_by columns picks cell
+
+-- a paper whose cells are the formula's
+pub paper_is : (paper : PaperCells) (cell : ℕ → ℕ → ℕ) → IsPaper paper
+    → ((column pick : ℕ) → column < paper.columns → pick < paper.picks → cell_of paper column pick ≡ cell column pick) → paper ≡ paper_by paper.columns paper.picks cell
+paper_is paper cell whole each =
+    ap (λ (xs : List ℕ). record { columns = paper.columns; picks = paper.picks; colours = xs }) (colours_are paper.colours paper.columns paper.picks cell whole each)
+
+pub colours_of_one : (columns picks colour : ℕ) → replicate (picks * columns) colour ≡ colours_by columns picks (λ column pick. colour)
+colours_of_one columns picks colour = colours_are (replicate (picks * columns) colour) columns picks (λ column pick. colour) (length-replicate (picks * columns) colour)
+    (λ column pick c p. get_or-replicate (picks * columns) (pick * columns + column) colour 0 (place_below columns picks column pick c p))

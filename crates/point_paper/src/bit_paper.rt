@@ -1,0 +1,74 @@
+//! A paper of truth values: a row of bits for each pick.
+ghost use Rattle.std.specs.Prelude.{◌≡◌, ◌<◌, false, length, replicate, slice_set, IfOk};
+ghost use Rattle.point_paper.specs.Papers.{bit_cell, bit_row, IsBitPaper};
+
+use mill_base::bit_row::BitRow;
+use mill_base::memory::OutOfMemory;
+use mill_base::size::Size;
+use std::alloc::Global;
+use std::marker::Model;
+
+/// A paper of C columns and P picks with a truth value in each cell, which contracts see as its rows from the lowest pick on.
+#[derive(Drop)]
+pub struct BitPaper {
+    size: Size,
+    rows: Vec<BitRow>,
+}
+
+impl Model for BitPaper {
+    ghost use Rattle.std.specs.Prelude.{◌≡◌, length};
+    ghost use Rattle.point_paper.specs.Papers.{BitCells, IsBitPaper};
+
+    ghost Value = { BitCells };
+
+    ghost view = { λ b. record { columns = b.size.columns; rows = b.rows.items } };
+
+    ghost invariant = { λ b. (length b.rows.items ≡ b.size.picks) × IsBitPaper (record { columns = b.size.columns; rows = b.rows.items }) };
+}
+
+impl BitPaper {
+    /// A paper that is false everywhere.
+    pub fn new(alloc: Global, size: Size) -> Result<BitPaper, OutOfMemory>
+        ensures { IfOk result (λ b. b ≡ record { columns = size.columns; rows = replicate size.picks (replicate size.columns false) }) }
+    {
+        let mut rows = Vec::with_capacity(alloc, size.picks as usize)?;
+        for _ in 0..size.picks {
+            rows.push(BitRow::new(alloc, size.columns)?)?;
+        }
+        Ok(BitPaper { size, rows })
+    }
+
+    /// How many columns and picks the paper has.
+    pub fn size(&self) -> Size
+        ensures size { result ≡ record { columns = self.now.columns; picks = length self.now.rows } }
+        ensures whole { IsBitPaper self.now }
+    {
+        self.size
+    }
+
+    /// The row of a pick, from column 0 on.
+    pub fn row(&self, pick: u32) -> &BitRow
+        requires { pick < length self.now.rows }
+        ensures row { result.now ≡ bit_row self.now pick }
+        ensures columns { length result.now ≡ self.now.columns }
+    {
+        &self.rows[pick as usize]
+    }
+
+    /// The rows from the lowest pick on.
+    pub fn rows(&self) -> &[BitRow]
+        ensures rows { result.now ≡ self.now.rows }
+        ensures whole { IsBitPaper self.now }
+    {
+        &self.rows
+    }
+
+    /// The truth value of the cell in a column of a pick.
+    pub fn get(&self, column: u32, pick: u32) -> bool
+        requires column { column < self.now.columns }
+        requires pick { pick < length self.now.rows }
+        ensures { result ≡ bit_cell self.now column pick }
+    {
+        self.rows[pick as usize].get(column)
+    }
+}
