@@ -1,0 +1,7 @@
+//! What the studio meets of the outside: files by name, streams that take bytes, and the moments at which a caller may look on.
+#![tactic(auto)]
+
+pub mod faults;
+pub mod gate;
+pub mod shelf;
+pub mod sink;
