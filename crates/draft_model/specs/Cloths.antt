@@ -1,0 +1,47 @@
+-- The cloth of a paper: what each warp end does at each pick.
+-- Columns and ends are counted from the left and picks from the bottom, all from 0.
+use Rattle.std.specs.Prelude.{◌≡◌, ◌<◌, ℕ, ℤ, pos, Bool, false, List, [], length, map, slice_index, slice_index_or}
+use Rattle.std.specs.List.{range_with_len}
+use Rattle.mill_base.specs.Lines.{remainder}
+use Rattle.weave_book.specs.declared.weaves.Weave.{Weave}
+use Rattle.weave_book.specs.declared.weaves.Weave.TheVariants.{Blank}
+use Rattle.weave_book.specs.Weaves.{mark}
+use Rattle.point_paper.specs.Papers.{PaperCells, BitCells, cell_of, bit_cell, line_by}
+
+-- the weave of a colour of the book
+abbrev pub weave_of : List Weave → ℕ → Weave
+weave_of book colour = slice_index_or book colour Blank
+
+-- the raw cell of a paper: the mark that the weave of its colour has there
+abbrev pub raw_cell : List Weave → PaperCells → ℕ → ℕ → Bool
+raw_cell book paper column pick = mark (weave_of book (cell_of paper column pick)) column pick
+
+-- the rows of so many picks, from the bottom, of so many cells each, from the left, by the formula of a cell
+unfoldable pub rows_by : {A : Type 0} → ℕ → ℕ → (ℕ → ℕ → A) → List (List A)
+rows_by columns picks cell = map (λ pick. line_by columns (λ column. cell column pick)) (range_with_len 0 picks)
+
+-- the raw cells of a paper
+abbrev pub raw : List Weave → PaperCells → BitCells
+raw book paper = record { columns = paper.columns; rows = rows_by paper.columns paper.picks (raw_cell book paper) }
+
+-- a cloth: for each pick, from the bottom, whether each end is lifted, from the left
+pub record ClothCells : Type 0 where
+  pub ends : ℕ
+  pub rows : List (List Bool)
+
+-- The cloth of a bit paper under a tie, the list of its ends' columns, has the cell G (tie (e mod E), p mod P) at end e and pick p.
+-- It is endless in both directions, so e and p are any whole numbers.
+abbrev pub cloth : List ℕ → BitCells → ℤ → ℤ → Bool
+cloth tie bits e p = bit_cell bits (slice_index tie (remainder e (length tie))) (remainder p (length bits.rows))
+
+-- one repeat of the cloth, from end 0 and pick 0 on
+abbrev pub repeat : List ℕ → BitCells → ClothCells
+repeat tie bits = record { ends = length tie; rows = rows_by (length tie) (length bits.rows) (λ e p. cloth tie bits (pos e) (pos p)) }
+
+-- each row has a truth value for each end
+abbrev pub IsCloth : ClothCells → Type 0
+IsCloth cloth = (pick : ℕ) → pick < length cloth.rows → length (slice_index_or cloth.rows pick []) ≡ cloth.ends
+
+-- a pick of a cloth: the cells of the paper's pick at the columns of the ends
+abbrev pub tied : List ℕ → List Bool → List Bool
+tied tie row = line_by (length tie) (λ e. slice_index_or row (slice_index tie e) false)

@@ -1,0 +1,3 @@
+pub mod Cloths
+pub mod Designs
+pub mod Drawdowns

@@ -1,0 +1,8 @@
+//! The rules of the cloth: a design, its raw and bound paper, and the drawdown. The functions are the plain ones: each computes its
+//! definition from scratch.
+#![tactic(auto)]
+
+pub mod cloth;
+pub mod design;
+pub mod drawdown;
+pub mod float_run;

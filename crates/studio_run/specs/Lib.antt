@@ -1,0 +1,9 @@
+pub mod Commands
+pub mod Strokes
+pub mod Sessions
+pub mod Journals
+pub mod Repeats
+pub mod Logs
+pub mod Reports
+pub mod Faults
+pub mod Answers
