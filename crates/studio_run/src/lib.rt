@@ -1,0 +1,10 @@
+//! The studio as one call: from the words of the command line to the report.
+#![tactic(auto)]
+
+pub mod answer;
+pub mod command;
+pub mod report_text;
+pub mod session_file;
+pub mod shift_run;
+pub mod strokes;
+pub mod version_journal;
