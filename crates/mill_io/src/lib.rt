@@ -3,5 +3,6 @@
 
 pub mod faults;
 pub mod gate;
+pub mod pieces;
 pub mod shelf;
 pub mod sink;
