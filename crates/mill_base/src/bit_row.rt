@@ -51,6 +51,14 @@ impl BitRow {
         bit(&self.words, k as usize)
     }
 
+    /// Takes over the truth values of a row of as many positions. It takes no memory.
+    pub fn copy_from(&mut self, other: &BitRow)
+        requires { length self.old ≡ length other.now }
+        ensures { self.new ≡ other.now }
+    {
+        copy_words(&mut self.words, &other.words);
+    }
+
     /// Sets the truth value at a position, counted from 0.
     pub fn set(&mut self, k: u32, value: bool)
         requires { k < length self.old }
@@ -65,6 +73,13 @@ fn bit(words: &[u64], k: usize) -> bool
     ensures { result ≡ bit_of words.now k }
 {
     (words[k / 64] >> (k % 64)) & 1 == 1
+}
+
+fn copy_words(words: &mut Vec<u64>, from: &[u64])
+    requires { length words.old.items ≡ length from.now }
+    ensures { words.new.items ≡ from.now }
+{
+    words.copy_from_slice(from);
 }
 
 fn put_bit(words: &mut Vec<u64>, k: usize, value: bool)
