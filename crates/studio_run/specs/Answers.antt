@@ -1,9 +1,11 @@
 -- What the answer of the studio says.
-use Rattle.std.specs.Prelude.{◌≡◌, ℕ, ◌<◌, ◌≤◌, Bool, true, false, List, length, Option, Some, None, IsNone, IsSomeAnd, IfSome, Result, Ok, Err, ◌++◌}
+use Rattle.std.specs.Prelude.{◌≡◌, ℕ, ◌≤◌, Bool, true, false, List, length, map, Option, Some, None, IsSome, Result, Ok, Err, String}
+use Rattle.std.specs.String.{string_bytes}
+use Rattle.std.specs.declared.alloc.Global.{Global}
+use Rattle.mill_io.specs.Takes.{TookAll, TookPart}
 use Rattle.mill_base.specs.Causes.{Rose}
 use Rattle.mill_io.specs.Files.{File, content_of}
 use Rattle.mill_io.specs.Reads.{Holds, HoldsMore}
-use Rattle.mill_io.specs.Takes.{Took}
 use Rattle.studio_run.specs.declared.report_text.Cause.{Cause}
 use Rattle.studio_run.specs.declared.report_text.Cause.TheVariants.{Done, Usage, Session, OutOfMemory, ReadFault, WriteFault, TooLong}
 use Rattle.studio_run.specs.declared.session_file.Session.{Session as SessionValue}
@@ -57,9 +59,39 @@ pub record Ran (words : List (List ℕ)) (files : Option (List File)) (run_log :
   pub legal : Legal session log
   pub reported : taken (report session log)
 
--- all of the bytes were taken, or a prefix of them
-abbrev pub TookAll : Option (List ℕ) → Option (List ℕ) → List ℕ → Type 0
-TookAll before now bytes = Took {T = Unit {0}} {E = Unit {0}} before now bytes (Ok tt)
+-- the words of the command line as bytes
+abbrev pub texts : List (String Global) → List (List ℕ)
+texts words = map (λ word. string_bytes word) words
 
-abbrev pub TookPrefix : Option (List ℕ) → Option (List ℕ) → List ℕ → Type 0
-TookPrefix before now bytes = Took {T = Unit {0}} {E = Unit {0}} before now bytes (Err tt)
+-- the words name a file that is there and not too long, and its bytes denote a session
+pub record IsGood (words : List (List ℕ)) (held : List File) : Type 0 where
+  pub name : List ℕ
+  pub bytes : List ℕ
+  pub session : SessionValue
+  pub command : session_name words ≡ Some name
+  pub content : content_of held name ≡ Some bytes
+  pub within : length bytes ≤ file_limit
+  pub denotes : SessionOf bytes (Ok session)
+
+-- what a call found outside, and what it left there: the files, the counts of faults of the shelf's reads and of the sink, the name of
+-- the read that failed last, and what the sink took
+pub record Outside : Type 0 where
+  pub files : Option (List File)
+  pub reads_before : ℕ
+  pub reads_now : ℕ
+  pub failed_name : List ℕ
+  pub faults_before : ℕ
+  pub faults_now : ℕ
+  pub taken_before : Option (List ℕ)
+  pub taken_now : Option (List ℕ)
+
+-- what each cause says of the words and of this call
+abbrev pub IsCaused : List (List ℕ) → Outside → Option RunLog → Cause → Type 0
+IsCaused words o run_log Done = Ran words o.files run_log (TookAll o.taken_before o.taken_now)
+IsCaused words o run_log Usage = (session_name words ≡ None) × (o.taken_now ≡ o.taken_before) × (run_log ≡ None)
+IsCaused words o run_log (Session fault) = Denotes words o.files (Err fault) × (o.taken_now ≡ o.taken_before) × (run_log ≡ None)
+IsCaused words o run_log OutOfMemory = IsSome (session_name words) × (o.taken_now ≡ o.taken_before) × (run_log ≡ None)
+IsCaused words o run_log (ReadFault name) =
+    (session_name words ≡ Some name) × (Rose o.reads_before o.reads_now × (o.failed_name ≡ name)) × (o.taken_now ≡ o.taken_before) × (run_log ≡ None)
+IsCaused words o run_log WriteFault = Rose o.faults_before o.faults_now × Ran words o.files run_log (TookPart o.taken_before o.taken_now)
+IsCaused words o run_log (TooLong name) = (session_name words ≡ Some name) × HoldsMore o.files name file_limit × (o.taken_now ≡ o.taken_before) × (run_log ≡ None)

@@ -1,5 +1,5 @@
 -- The replies to a list of acts, and the versions of the paper that they make.
-use Rattle.std.specs.Prelude.{ℕ, List, [], ◌∷◌, ◌++◌, length, fold}
+use Rattle.std.specs.Prelude.{◌≡◌, ℕ, ◌+◌, List, [], ◌∷◌, ◌++◌, length, fold, Some, slice_get}
 use Rattle.point_paper.specs.Papers.{PaperCells}
 use Rattle.studio_run.specs.declared.strokes.Act.{Act}
 use Rattle.studio_run.specs.declared.strokes.Act.TheVariants.{Dot, Commit}
@@ -33,3 +33,9 @@ replies opening acts = (history opening acts).replies
 
 abbrev pub versions : PaperCells → List Act → List PaperCells
 versions opening acts = (history opening acts).versions
+
+-- the paper that is being painted and the newest version with its number, after the acts of a history
+pub record IsDesk (h : History) (paper newest : PaperCells) (version : ℕ) : Type 0 where
+  pub painted : paper ≡ h.paper
+  pub last : length h.versions ≡ version + 1
+  pub current : slice_get h.versions version ≡ Some newest

@@ -11,15 +11,9 @@ use Rattle.studio_run.specs.declared.version_journal.Reply.TheVariants.{Painted,
 use Rattle.studio_run.specs.declared.version_journal.Entry.{Entry}
 use Rattle.studio_run.specs.declared.version_journal.Repeat.{Repeat}
 use Rattle.studio_run.specs.declared.version_journal.RunLog.{RunLog}
+use Rattle.studio_run.specs.Plans.{plan_of, acts_of_painter}
 use Rattle.studio_run.specs.Journals.{replies, versions}
 use Rattle.studio_run.specs.Repeats.{IsWoven}
-
-abbrev pub plan_of : Session → ℕ → ShiftPlan
-plan_of session shift = slice_index_or session.shifts shift (record { repeats = []; painters = [] })
-
--- the acts of a painter in a shift, in order
-abbrev pub acts_of_painter : ShiftPlan → ℕ → List Act
-acts_of_painter plan painter = slice_index_or plan.painters painter []
 
 -- the act that an entry names: its number counts the painter's acts of that shift from 1
 abbrev pub named_act : Session → Entry → Act
@@ -78,3 +72,8 @@ pub record LegalBefore (session : Session) (log : RunLog) (k : ℕ) : Type 0 whe
 -- a legal log of the whole session
 abbrev pub Legal : Session → RunLog → Type 0
 Legal session log = LegalBefore session log (length session.shifts)
+
+-- the entries of painter 0 in shift 0 with these replies, numbered from a number on
+abbrev pub entries_from : ℕ → List Reply → List Entry
+entries_from number [] = []
+entries_from number (reply ∷ replies) = record { shift = 0; painter = 0; number = number; reply = reply } ∷ entries_from (number + 1) replies

@@ -13,6 +13,10 @@ use Rattle.studio_run.specs.declared.version_journal.Repeat.{Repeat}
 abbrev pub digest_of : ClothCells → List ℕ
 digest_of cloth = sha256 (concat (map packed cloth.rows))
 
+-- the repeat of a version's cloth
+abbrev pub repeat_of : ℕ → ℕ → Bool → ClothCells → Repeat
+repeat_of shift version shown cloth = record { shift = shift; version = version; digest = digest_of cloth; rows = if shown then Some cloth else None }
+
 -- the repeat is one of its version, from the first pick to the last: its rows are those of the version's drawdown, of which it has the
 -- digest, and the rows themselves where they are shown
 pub record IsWoven (design : Design) (shown : Bool) (versions : List PaperCells) (woven : Repeat) : Type 0 where

@@ -1,0 +1,66 @@
+//! The looms' part of a run.
+ghost use Rattle.std.specs.Prelude.{◌≡◌, length, replicate, map, IfOk};
+ghost use Rattle.std.specs.List.{concat};
+ghost use Rattle.mill_base.specs.Bits.{packed};
+ghost use Rattle.draft_model.specs.Designs.{Fits, IsPaperOf};
+ghost use Rattle.draft_model.specs.Drawdowns.{drawdown as drawdown_of};
+ghost use Rattle.studio_run.specs.Repeats.{digest_of, repeat_of};
+
+use crate::session_file::Session;
+use crate::version_journal::Repeat;
+use draft_model::cloth::Cloth;
+use draft_model::design::Design;
+use draft_model::drawdown::drawdown;
+use mill_base::listed::Listed;
+use mill_base::memory::OutOfMemory;
+use point_paper::paper::Paper;
+use sha2::{Digest, Sha256};
+use std::alloc::Global;
+
+/// The repeats of a shift that a loom weaves from one version of the paper.
+pub fn weave_repeats(alloc: Global, session: &Session, paper: &Paper, version: u32, shift: u32, count: u32) -> Result<Listed<Repeat>, OutOfMemory>
+    requires fits { Fits session.now.design }
+    requires paper { IsPaperOf session.now.design paper.now }
+    ensures { IfOk result (λ repeats. repeats
+        ≡ replicate count (repeat_of shift version session.now.show_rows (drawdown_of session.now.design paper.now))) }
+{
+    let cloth = drawdown(alloc, &session.design, paper)?;
+    let digest = digest_of_cloth(alloc, &cloth)?;
+    let mut repeats = Listed::new(alloc);
+    for _ in 0..count {
+        let rows = if session.show_rows {
+            Some(cloth.copy()?)
+        } else {
+            None
+        };
+        repeats.push(Repeat {
+            shift,
+            version,
+            digest,
+            rows,
+        })?;
+    }
+    Ok(repeats)
+}
+
+/// The digest of the drawdown of a paper: SHA-256 (FIPS 180-4) of the rows of its cloth from pick 0 on, each packed.
+pub fn cloth_digest(alloc: Global, design: &Design, paper: &Paper) -> Result<[u8; 32], OutOfMemory>
+    requires fits { Fits design.now }
+    requires paper { IsPaperOf design.now paper.now }
+    ensures { IfOk result (λ digest. digest ≡ digest_of (drawdown_of design.now paper.now)) }
+{
+    let cloth = drawdown(alloc, design, paper)?;
+    digest_of_cloth(alloc, &cloth)
+}
+
+fn digest_of_cloth(alloc: Global, cloth: &Cloth) -> Result<[u8; 32], OutOfMemory>
+    ensures { IfOk result (λ digest. digest ≡ digest_of cloth.now) }
+{
+    let mut hasher = Sha256::new();
+    let mut bytes = Vec::from_elem(alloc, 0u8, (cloth.ends() as usize + 7) / 8)?;
+    for pick in 0..cloth.picks() {
+        cloth.row(pick).pack(&mut bytes);
+        hasher.update(bytes.as_slice());
+    }
+    Ok(hasher.finalize())
+}
