@@ -1,11 +1,12 @@
 -- Lists of cells by a formula.
-use Rattle.std.proofs.Common.{◌≡◌, ◌+◌, ◌*◌, ◌<◌, ◌≤◌, ℕ, zero, suc, List, ◌++◌, length, get_or, take, drop, replicate, sym, ap, ◌∙◌, subst, refl, arith, ⊎_elim, length-append, length-take, length-drop}
+use Rattle.std.proofs.Common.{◌≡◌, ◌+◌, ◌-◌, ◌*◌, ◌<◌, ◌≤◌, ℕ, zero, suc, List, ◌++◌, length, get_or, take, drop, slice_range, replicate, sym, ap, ◌∙◌, subst, refl, arith, ⊎_elim, length-append, length-take, length-drop, add-one}
 use Rattle.std.proofs.Math.Nat.{suc-mul, mul-le-mul_right}
 use Rattle.std.proofs.lemmas.Bool.{cases_lt}
 use Rattle.std.proofs.lemmas.List.{ext_get_or, get_or_append_left, get_or-append-add, get_or-take, get_or-drop, get_or-replicate, length-replicate, take-append-drop}
+use Rattle.std.proofs.lemmas.List.Edits.{length-between, get_or-between}
 use Rattle.std.proofs.lemmas.List.FromFn.{length-map-range_with_len, get_or-map-range_with_len}
 use Rattle.std.specs.List.{range_with_len}
-use Rattle.point_paper.specs.Papers.{PaperCells, IsPaper, cell_of, line_by, colours_by, paper_by}
+use Rattle.point_paper.specs.Papers.{PaperCells, IsPaper, cell_of, pick_of, column_of, line_by, colours_by, paper_by, image_cell}
 
 pub length-line_by : {A : Type 0} (n : ℕ) (cell : ℕ → A) → length (line_by n cell) ≡ n
 unfolding line_by
@@ -74,3 +75,32 @@ paper_is paper cell whole each =
 pub colours_of_one : (columns picks colour : ℕ) → replicate (picks * columns) colour ≡ colours_by columns picks (λ column pick. colour)
 colours_of_one columns picks colour = colours_are (replicate (picks * columns) colour) columns picks (λ column pick. colour) (length-replicate (picks * columns) colour)
     (λ column pick c p. get_or-replicate (picks * columns) (pick * columns + column) colour 0 (place_below columns picks column pick c p))
+
+-- the image row of a pick is that pick of the paper
+pub image_row : (pixels : List ℕ) (columns picks pick : ℕ) → length pixels ≡ picks * columns → pick < picks
+    → slice_range pixels ((picks - 1 - pick) * columns) ((picks - 1 - pick) * columns + columns) ≡ line_by columns (λ column. image_cell columns picks pixels column pick)
+image_row pixels columns picks pick whole low =
+    let at = (picks - 1 - pick) * columns in
+    let within : at + columns ≤ length pixels = omega (arith, suc-mul (picks - 1 - pick) columns, mul-le-mul_right {m = suc (picks - 1 - pick)} {n = picks} columns (omega arith)) in
+    line_is 0 (slice_range pixels at (at + columns)) columns (λ column. image_cell columns picks pixels column pick)
+    (length-between pixels at (at + columns) within ∙ (let e : at + columns - at ≡ columns = omega arith in e))
+    (λ column c. get_or-between pixels at (at + columns) column 0 (omega arith))
+
+pub colours_more : (columns picks n : ℕ) (cell : ℕ → ℕ → ℕ) → n ≡ picks + 1 → colours_by columns n cell ≡ colours_by columns picks cell ++ line_by columns (λ column. cell column picks)
+unfolding colours_by
+colours_more columns picks n cell is = rw (is, add-one) refl
+
+pub pick_read : (columns picks : ℕ) (colours : List ℕ) (paper : PaperCells) (index n : ℕ) (out : List ℕ) → record { columns = columns; picks = picks; colours = colours } ≡ paper → length colours ≡ picks * columns
+    → index < paper.picks → n ≡ paper.columns → out ≡ take n (drop (index * columns) colours) → out ≡ pick_of paper index
+pick_read columns picks colours paper index n out is whole low long taken =
+    subst (λ (p : PaperCells). index < p.picks → n ≡ p.columns → out ≡ pick_of p index) is (λ low long.
+      taken ∙ rw long (line_is 0 (take columns (drop (index * columns) colours)) columns (λ column. get_or colours (index * columns + column) 0)
+        (omega (arith, length-take columns (drop (index * columns) colours), length-drop (index * columns) colours, suc-mul index columns, mul-le-mul_right {m = suc index} {n = picks} columns (omega arith)))
+        (λ column c. get_or-take columns (drop (index * columns) colours) column 0 c ∙ get_or-drop (index * columns) colours column 0)))
+      low long
+
+pub column_read : (columns picks : ℕ) (colours : List ℕ) (paper : PaperCells) (index : ℕ) (out : List ℕ) → record { columns = columns; picks = picks; colours = colours } ≡ paper
+    → length out ≡ paper.picks → ((pick : ℕ) → pick < length out → get_or out pick 0 ≡ get_or colours (pick * columns + index) 0) → out ≡ column_of paper index
+column_read columns picks colours paper index out is long each =
+    subst (λ (p : PaperCells). length out ≡ p.picks → out ≡ column_of p index) is (λ long.
+      line_is 0 out picks (λ pick. get_or colours (pick * columns + index) 0) long (λ pick h. each pick (omega arith))) long

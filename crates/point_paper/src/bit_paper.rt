@@ -71,4 +71,21 @@ impl BitPaper {
     {
         self.rows[pick as usize].get(column)
     }
+    /// Sets the truth value of the cell in a column of a pick. All other cells stay.
+    pub fn set(&mut self, column: u32, pick: u32, value: bool)
+        requires column { column < self.old.columns }
+        requires pick { pick < length self.old.rows }
+        ensures { self.new ≡ record self.old { rows = slice_set self.old.rows pick (slice_set (bit_row self.old pick) column value) } }
+    {
+        self.rows[pick as usize].set(column, value);
+    }
+
+    /// Takes over a whole row of as many columns. All other rows stay, and no memory is taken.
+    pub fn set_row(&mut self, pick: u32, row: &BitRow)
+        requires pick { pick < length self.old.rows }
+        requires columns { length row.now ≡ self.old.columns }
+        ensures { self.new ≡ record self.old { rows = slice_set self.old.rows pick row.now } }
+    {
+        self.rows[pick as usize].copy_from(row);
+    }
 }
