@@ -1,7 +1,6 @@
 -- The cloth of a paper: what each warp end does at each pick.
 -- Columns and ends are counted from the left and picks from the bottom, all from 0.
-use Rattle.std.specs.Prelude.{◌≡◌, ◌<◌, ℕ, ℤ, pos, Bool, false, List, [], length, map, slice_index, slice_index_or}
-use Rattle.std.specs.List.{range_with_len}
+use Rattle.std.specs.Prelude.{◌≡◌, ◌<◌, ℕ, ℤ, pos, Bool, false, List, [], length, slice_index, slice_index_or}
 use Rattle.mill_base.specs.Lines.{remainder}
 use Rattle.weave_book.specs.declared.weaves.Weave.{Weave}
 use Rattle.weave_book.specs.declared.weaves.Weave.TheVariants.{Blank}
@@ -17,8 +16,8 @@ abbrev pub raw_cell : List Weave → PaperCells → ℕ → ℕ → Bool
 raw_cell book paper column pick = mark (weave_of book (cell_of paper column pick)) column pick
 
 -- the rows of so many picks, from the bottom, of so many cells each, from the left, by the formula of a cell
-unfoldable pub rows_by : {A : Type 0} → ℕ → ℕ → (ℕ → ℕ → A) → List (List A)
-rows_by columns picks cell = map (λ pick. line_by columns (λ column. cell column pick)) (range_with_len 0 picks)
+abbrev pub rows_by : {A : Type 0} → ℕ → ℕ → (ℕ → ℕ → A) → List (List A)
+rows_by columns picks cell = line_by picks (λ pick. line_by columns (λ column. cell column pick))
 
 -- the raw cells of a paper
 abbrev pub raw : List Weave → PaperCells → BitCells

@@ -76,7 +76,9 @@ impl Cloth {
     {
         let mut rows = Vec::with_capacity(*self.rows.allocator(), self.rows.len())?;
         for row in &self.rows {
-            rows.push(row.copy()?)?;
+            let mut copy = BitRow::new(*self.rows.allocator(), self.ends)?;
+            copy.copy_from(row);
+            rows.push(copy)?;
         }
         Ok(Cloth {
             ends: self.ends,

@@ -1,0 +1,2 @@
+-- Rows of a cloth.
+use Rattle.std.proofs.Common.{◌≡◌}
