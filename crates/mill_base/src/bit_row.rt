@@ -1,9 +1,11 @@
 //! A row of truth values in words of 64 bits, which contracts see as a list.
-ghost use Rattle.std.specs.Prelude.{◌≡◌, ◌≢◌, ◌+◌, ◌*◌, ◌/◌, ◌<◌, ◌≤◌, ◌==◌, ℕ, true, false, length, replicate, slice_get, slice_set, slice_index_or, Some, IfOk, IsTrue, ◌↔◌};
+ghost use Rattle.std.specs.Prelude.{◌≡◌, ◌≢◌, ◌+◌, ◌*◌, ◌/◌, ◌%◌, ◌<◌, ◌≤◌, ◌==◌, ℕ, true, false, length, replicate, slice_get, slice_set, slice_index_or, Some, IfOk, IsTrue, ◌↔◌};
 ghost use Rattle.std.specs.Int.{bit_at};
-ghost use Rattle.mill_base.specs.Bits.{bit_of};
+ghost use Rattle.mill_base.specs.Bits.{bit_of, packed, HoldsRow};
+ghost use Rattle.mill_base.specs.Lines.{rotated};
 
 use crate::memory::OutOfMemory;
+use crate::word;
 use std::alloc::Global;
 use std::marker::Model;
 
@@ -65,6 +67,68 @@ impl BitRow {
         ensures { self.new ≡ slice_set self.old k value }
     {
         put_bit(&mut self.words, k as usize, value);
+    }
+
+    /// Sets every position to one truth value.
+    pub fn fill(&mut self, value: bool)
+        ensures { self.new ≡ replicate (length self.old) value }
+    {
+        word::fill(&mut self.words, self.len, value);
+    }
+
+    /// Whether two rows are the same: as many positions, and the same truth value at each.
+    pub fn equals(&self, other: &BitRow) -> bool
+        ensures { IsTrue result ↔ (self.now ≡ other.now) }
+    {
+        self.len == other.len && word::same_words(&self.words, &other.words)
+    }
+
+    /// The row's words: position k stands in bit k mod 64 of word k div 64, and the bits past the last position are clear.
+    pub fn words(&self) -> &[u64]
+        ensures { HoldsRow result.now self.now }
+    {
+        &self.words
+    }
+
+    /// Puts the 64 positions from 64 times `at` on: bit j of the word is position 64 times `at` plus j. Bits that would
+    /// stand past the last position are left out.
+    pub fn put_word(&mut self, at: u32, word: u64)
+        requires { at < (length self.old + 63) / 64 }
+        ensures len { length self.new ≡ length self.old }
+        ensures here { (k : ℕ) → k < length self.old → k / 64 ≡ at → slice_index_or self.new k false ≡ (bit_at word (k % 64) == 1) }
+        ensures others { (k : ℕ) → k / 64 ≢ at → slice_index_or self.new k false ≡ slice_index_or self.old k false }
+    {
+        word::put_word(&mut self.words, self.len, at, word);
+    }
+
+    /// Writes this row, turned, into a row of the same length: its position k is this row's position k plus `by`, counted
+    /// round the end.
+    pub fn rotate_into(&self, by: u32, out: &mut BitRow)
+        requires len { length out.old ≡ length self.now }
+        requires by { by < length self.now }
+        ensures { out.new ≡ rotated self.now by }
+    {
+        word::turn(&self.words, self.len, by, &mut out.words);
+    }
+
+    /// Writes the row into bytes, eight positions to a byte: position k stands in bit 7 - k mod 8 of byte k div 8, and
+    /// the last byte's unused bits are 0.
+    pub fn pack(&self, out: &mut [u8])
+        requires { length out.old ≡ (length self.now + 7) / 8 }
+        ensures { out.new ≡ packed self.now }
+    {
+        word::pack(&self.words, out);
+    }
+
+    /// The same row in memory of its own.
+    pub fn copy(&self) -> Result<BitRow, OutOfMemory>
+        ensures { IfOk result (λ r. r ≡ self.now) }
+    {
+        let words = Vec::from_slice(*self.words.allocator(), &self.words)?;
+        Ok(BitRow {
+            len: self.len,
+            words,
+        })
     }
 }
 
