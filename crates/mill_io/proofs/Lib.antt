@@ -1,3 +1,4 @@
 pub mod Cuts
+pub mod Filing
 pub mod Joined
 pub mod Counts

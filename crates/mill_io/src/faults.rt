@@ -1,4 +1,6 @@
 //! Faults of what is outside, and how those in memory are told to fail.
+ghost use Rattle.std.specs.Prelude.{◌≡◌};
+ghost use Rattle.mill_io.specs.Memory.{failing_of};
 
 /// A write failed. The count of faults of what was written to tells how often that came.
 #[derive(Clone, Copy, Debug, PartialEq, Eq)]
@@ -10,4 +12,11 @@ pub struct Failed;
 pub struct Fail {
     pub call: u64,
     pub bytes: u64,
+}
+
+// The first entry for the call of that number, where it is one that is to fail.
+pub(crate) fn failing_call(fails: &[Fail], call: u64) -> Option<Fail>
+    ensures { result ≡ failing_of fails.now call }
+{
+    fails.iter().copied().find(|fail| fail.call == call)
 }

@@ -3,6 +3,8 @@
 
 pub mod faults;
 pub mod gate;
+pub mod memory_shelf;
+pub mod memory_sink;
 pub mod pieces;
 pub mod shelf;
 pub mod sink;

@@ -4,7 +4,7 @@ ghost use Rattle.mill_base.specs.Causes.{Rose};
 ghost use Rattle.mill_io.specs.Files.{File};
 ghost use Rattle.mill_io.specs.Reads.{OnFailed, Reads, name_after};
 
-use std::alloc::{AllocError, Global};
+use std::alloc::Global;
 
 /// Why a read gave no content.
 #[derive(Clone, Copy, Debug, PartialEq, Eq)]
@@ -14,12 +14,6 @@ pub enum ShelfRefusal {
     /// The file has more bytes than the caller takes.
     TooLong,
     OutOfMemory,
-}
-
-impl From<AllocError> for ShelfRefusal {
-    fn from(_error: AllocError) -> ShelfRefusal {
-        ShelfRefusal::OutOfMemory
-    }
 }
 
 /// Files, each under a name. A shelf counts the reads and the writes that failed; at its greatest value a count stays.
