@@ -29,8 +29,13 @@ pub length-colours_by : (columns picks : ℕ) (cell : ℕ → ℕ → ℕ) → l
 unfolding colours_by
 length-colours_by columns zero cell = omega arith
 length-colours_by columns (suc picks) cell =
-    omega (arith, length-append (colours_by columns picks cell) (line_by columns (λ column. cell column picks)), length-colours_by columns picks cell,
-    length-line_by columns (λ column. cell column picks), suc-mul picks columns)
+    omega (
+      arith,
+      length-append (colours_by columns picks cell) (line_by columns (λ column. cell column picks)),
+      length-colours_by columns picks cell,
+      length-line_by columns (λ column. cell column picks),
+      suc-mul picks columns,
+    )
 
 pub get_or-colours_by : (columns picks : ℕ) (cell : ℕ → ℕ → ℕ) (column pick : ℕ) → column < columns → pick < picks → get_or (colours_by columns picks cell) (pick * columns + column) 0 ≡ cell column pick
 unfolding colours_by
@@ -39,13 +44,13 @@ get_or-colours_by columns (suc picks) cell column pick c p =
     let low = colours_by columns picks cell in
     let top = line_by columns (λ x. cell x picks) in
     ⊎_elim
-      (λ (h : pick < picks). get_or_append_left low top 0 (pick * columns + column) (subst (λ n. pick * columns + column < n) (sym (length-colours_by columns picks cell)) (place_below columns picks column pick c h))
-      ∙ get_or-colours_by columns picks cell column pick c h)
-      (λ (h : picks ≤ pick).
-      let last : pick ≡ picks = omega arith in
-      ap (λ n. get_or (low ++ top) (n + column) 0) (ap (λ n. n * columns) last ∙ sym (length-colours_by columns picks cell))
-      ∙ get_or-append-add low top column 0 ∙ get_or-line_by columns (λ x. cell x picks) column 0 c ∙ ap (cell column) (sym last))
-      (cases_lt pick picks)
+    (λ (h : pick < picks). get_or_append_left low top 0 (pick * columns + column) (subst (λ n. pick * columns + column < n) (sym (length-colours_by columns picks cell)) (place_below columns picks column pick c h))
+    ∙ get_or-colours_by columns picks cell column pick c h)
+    (λ (h : picks ≤ pick).
+    let last : pick ≡ picks = omega arith in
+    ap (λ n. get_or (low ++ top) (n + column) 0) (ap (λ n. n * columns) last ∙ sym (length-colours_by columns picks cell))
+    ∙ get_or-append-add low top column 0 ∙ get_or-line_by columns (λ x. cell x picks) column 0 c ∙ ap (cell column) (sym last))
+    (cases_lt pick picks)
 
 -- a list of as many picks whose cells are the formula's
 pub colours_are : (xs : List ℕ) (columns picks : ℕ) (cell : ℕ → ℕ → ℕ) → length xs ≡ picks * columns
@@ -55,9 +60,9 @@ colours_are xs columns zero cell long each = ext_get_or 0 xs (colours_by columns
 colours_are xs columns (suc picks) cell long each =
     let whole : picks * columns + columns ≡ length xs = omega (arith, suc-mul picks columns) in
     let low = colours_are (take (picks * columns) xs) columns picks cell (omega (arith, length-take (picks * columns) xs))
-      (λ column pick c p. get_or-take (picks * columns) xs (pick * columns + column) 0 (place_below columns picks column pick c p) ∙ each column pick c (omega arith)) in
+    (λ column pick c p. get_or-take (picks * columns) xs (pick * columns + column) 0 (place_below columns picks column pick c p) ∙ each column pick c (omega arith)) in
     let top = line_is 0 (drop (picks * columns) xs) columns (λ column. cell column picks) (omega (arith, length-drop (picks * columns) xs))
-      (λ column c. get_or-drop (picks * columns) xs column 0 ∙ each column picks c (omega arith)) in
+    (λ column c. get_or-drop (picks * columns) xs column 0 ∙ each column picks c (omega arith)) in
     sym (take-append-drop (picks * columns) xs) ∙ ap (λ ys. ys ++ drop (picks * columns) xs) low ∙ ap (λ ys. colours_by columns picks cell ++ ys) top
 
 pub cell_of-paper_by : (columns picks : ℕ) (cell : ℕ → ℕ → ℕ) (column pick : ℕ) → column < columns → pick < picks → cell_of (paper_by columns picks cell) column pick ≡ cell column pick
@@ -94,13 +99,13 @@ pub pick_read : (columns picks : ℕ) (colours : List ℕ) (paper : PaperCells) 
     → index < paper.picks → n ≡ paper.columns → out ≡ take n (drop (index * columns) colours) → out ≡ pick_of paper index
 pick_read columns picks colours paper index n out is whole low long taken =
     subst (λ (p : PaperCells). index < p.picks → n ≡ p.columns → out ≡ pick_of p index) is (λ low long.
-      taken ∙ rw long (line_is 0 (take columns (drop (index * columns) colours)) columns (λ column. get_or colours (index * columns + column) 0)
-        (omega (arith, length-take columns (drop (index * columns) colours), length-drop (index * columns) colours, suc-mul index columns, mul-le-mul_right {m = suc index} {n = picks} columns (omega arith)))
-        (λ column c. get_or-take columns (drop (index * columns) colours) column 0 c ∙ get_or-drop (index * columns) colours column 0)))
-      low long
+    taken ∙ rw long (line_is 0 (take columns (drop (index * columns) colours)) columns (λ column. get_or colours (index * columns + column) 0)
+    (omega (arith, length-take columns (drop (index * columns) colours), length-drop (index * columns) colours, suc-mul index columns, mul-le-mul_right {m = suc index} {n = picks} columns (omega arith)))
+    (λ column c. get_or-take columns (drop (index * columns) colours) column 0 c ∙ get_or-drop (index * columns) colours column 0)))
+    low long
 
 pub column_read : (columns picks : ℕ) (colours : List ℕ) (paper : PaperCells) (index : ℕ) (out : List ℕ) → record { columns = columns; picks = picks; colours = colours } ≡ paper
     → length out ≡ paper.picks → ((pick : ℕ) → pick < length out → get_or out pick 0 ≡ get_or colours (pick * columns + index) 0) → out ≡ column_of paper index
 column_read columns picks colours paper index out is long each =
     subst (λ (p : PaperCells). length out ≡ p.picks → out ≡ column_of p index) is (λ long.
-      line_is 0 out picks (λ pick. get_or colours (pick * columns + index) 0) long (λ pick h. each pick (omega arith))) long
+    line_is 0 out picks (λ pick. get_or colours (pick * columns + index) 0) long (λ pick h. each pick (omega arith))) long

@@ -26,8 +26,14 @@ filled xs at count colour = take at xs ++ (replicate count colour ++ drop (at + 
 
 length-filled : (xs : List ℕ) (at count colour : ℕ) → at + count ≤ length xs → length (filled xs at count colour) ≡ length xs
 length-filled xs at count colour room =
-    omega (arith, length-append (take at xs) (replicate count colour ++ drop (at + count) xs), length-append (replicate count colour) (drop (at + count) xs),
-    length-take at xs, length-replicate count colour, length-drop (at + count) xs)
+    omega (
+      arith,
+      length-append (take at xs) (replicate count colour ++ drop (at + count) xs),
+      length-append (replicate count colour) (drop (at + count) xs),
+      length-take at xs,
+      length-replicate count colour,
+      length-drop (at + count) xs,
+    )
 
 filled_before : (xs : List ℕ) (at count colour k : ℕ) → at + count ≤ length xs → k < at → get_or (filled xs at count colour) k 0 ≡ get_or xs k 0
 filled_before xs at count colour k room h =
@@ -52,33 +58,35 @@ cell_painted : (paper : PaperCells) (span : Span) → IsPaper paper → span.pic
     → get_or (filled paper.colours (span.pick * paper.columns + span.column) span.length span.colour) (pick * paper.columns + column) 0 ≡ after_span paper span column pick
 cell_painted paper span whole low within column pick c p =
     ⊎_elim
-      (λ (same : pick ≡ span.pick).
-      let start : pick * paper.columns ≡ span.pick * paper.columns = ap (λ n. n * paper.columns) same in
-      ⊎_elim
-        (λ (left : column < span.column). filled_before paper.colours at span.length span.colour place room (omega arith) ∙ sym (after_span-left paper span column pick left))
-        (λ (from : span.column ≤ column).
-        ⊎_elim
-          (λ (to : column < span.column + span.length). filled_here paper.colours at span.length span.colour place room (omega arith) (omega arith) ∙ sym (after_span-inside paper span column pick same from to))
-          (λ (right : span.column + span.length ≤ column). filled_behind paper.colours at span.length span.colour place room (omega arith) ∙ sym (after_span-right paper span column pick right))
-          (cases_lt column (span.column + span.length)))
-        (cases_lt column span.column))
-      (λ (other : (pick < span.pick) ⊎ (span.pick < pick)).
-      ⊎_elim
-        (λ (below : pick < span.pick).
-        filled_before paper.colours at span.length span.colour place room (omega (arith, suc-mul pick paper.columns, mul-le-mul_right {m = suc pick} {n = span.pick} paper.columns (omega arith)))
-        ∙ sym (after_span-other_pick paper span column pick (omega arith)))
-        (λ (above : span.pick < pick).
-        filled_behind paper.colours at span.length span.colour place room (omega (arith, suc-mul span.pick paper.columns, mul-le-mul_right {m = suc span.pick} {n = pick} paper.columns (omega arith)))
-        ∙ sym (after_span-other_pick paper span column pick (omega arith)))
-        other)
-      (cases_order pick span.pick)
+    (λ (same : pick ≡ span.pick).
+    let start : pick * paper.columns ≡ span.pick * paper.columns = ap (λ n. n * paper.columns) same in
+    ⊎_elim
+    (λ (left : column < span.column). filled_before paper.colours at span.length span.colour place room (omega arith) ∙ sym (after_span-left paper span column pick left))
+    (λ (from : span.column ≤ column).
+    ⊎_elim
+    (λ (to : column < span.column + span.length). filled_here paper.colours at span.length span.colour place room (omega arith) (omega arith) ∙ sym (after_span-inside paper span column pick same from to))
+    (λ (right : span.column + span.length ≤ column). filled_behind paper.colours at span.length span.colour place room (omega arith) ∙ sym (after_span-right paper span column pick right))
+    (cases_lt column (span.column + span.length)))
+    (cases_lt column span.column))
+    (λ (other : (pick < span.pick) ⊎ (span.pick < pick)).
+    ⊎_elim
+    (λ (below : pick < span.pick).
+    filled_before paper.colours at span.length span.colour place room (omega (arith, suc-mul pick paper.columns, mul-le-mul_right {m = suc pick} {n = span.pick} paper.columns (omega arith)))
+    ∙ sym (after_span-other_pick paper span column pick (omega arith)))
+    (λ (above : span.pick < pick).
+    filled_behind paper.colours at span.length span.colour place room (omega (arith, suc-mul span.pick paper.columns, mul-le-mul_right {m = suc span.pick} {n = pick} paper.columns (omega arith)))
+    ∙ sym (after_span-other_pick paper span column pick (omega arith)))
+    other)
+    (cases_order pick span.pick)
   where
-  at : ℕ
-  at = span.pick * paper.columns + span.column
-  place : ℕ
-  place = pick * paper.columns + column
-  room : at + span.length ≤ length paper.colours
-  room = omega (arith, whole, suc-mul span.pick paper.columns, mul-le-mul_right {m = suc span.pick} {n = paper.picks} paper.columns (omega arith))
+    at : ℕ
+    at = span.pick * paper.columns + span.column
+
+    place : ℕ
+    place = pick * paper.columns + column
+
+    room : at + span.length ≤ length paper.colours
+    room = omega (arith, whole, suc-mul span.pick paper.columns, mul-le-mul_right {m = suc span.pick} {n = paper.picks} paper.columns (omega arith))
 
 pub span_painted : (columns picks : ℕ) (colours : List ℕ) (paper : PaperCells) (span : Span) (new : List ℕ) → record { columns = columns; picks = picks; colours = colours } ≡ paper
     → length colours ≡ picks * columns → span.pick < paper.picks → span.column + span.length ≤ paper.columns
@@ -87,9 +95,9 @@ pub span_painted : (columns picks : ℕ) (colours : List ℕ) (paper : PaperCell
 span_painted columns picks colours paper span new is whole low within painted =
     subst (λ (q : PaperCells). span.pick < q.picks → span.column + span.length ≤ q.columns → record { columns = columns; picks = picks; colours = new } ≡ paper_by q.columns q.picks (after_span q span)) is
     (λ low within. rw painted (paper_is (record { columns = columns; picks = picks; colours = filled colours at span.length span.colour }) (after_span (record { columns = columns; picks = picks; colours = colours }) span)
-      (length-filled colours at span.length span.colour (omega (arith, suc-mul span.pick columns, mul-le-mul_right {m = suc span.pick} {n = picks} columns (omega arith))) ∙ whole)
-      (cell_painted (record { columns = columns; picks = picks; colours = colours }) span whole low within)))
+    (length-filled colours at span.length span.colour (omega (arith, suc-mul span.pick columns, mul-le-mul_right {m = suc span.pick} {n = picks} columns (omega arith))) ∙ whole)
+    (cell_painted (record { columns = columns; picks = picks; colours = colours }) span whole low within)))
     low within
   where
-  at : ℕ
-  at = span.pick * columns + span.column
+    at : ℕ
+    at = span.pick * columns + span.column

@@ -3,3 +3,5 @@
 
 pub mod bit_paper;
 pub mod paper;
+#[cfg(test)]
+mod tests;

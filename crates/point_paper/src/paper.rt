@@ -117,7 +117,10 @@ impl Paper {
         ensures { IfOk result (λ p. p ≡ self.now) }
     {
         let colours = Vec::from_slice(*self.colours.allocator(), &self.colours)?;
-        Ok(Paper { size: self.size, colours })
+        Ok(Paper {
+            size: self.size,
+            colours,
+        })
     }
 }
 

@@ -12,7 +12,7 @@ pub loop-pick-preserved : goal.loop-pick-preserved
 loop-pick-preserved c =
     pushed _ c.loop-pick.invariant c.in_ok-extend_from_slice.was c.extend_from_slice.ensures.items
     ∙ ap (λ xs. colours_by c.args.size.columns c.loop-pick.pick (image_cell c.args.size.columns c.args.size.picks c.args.pixels.now) ++ xs)
-        (image_row c.args.pixels.now c.args.size.columns c.args.size.picks c.loop-pick.pick c.requires c.loop-pick-test.true)
+    (image_row c.args.pixels.now c.args.size.columns c.args.size.picks c.loop-pick.pick c.requires c.loop-pick-test.true)
     ∙ sym (colours_more c.args.size.columns c.loop-pick.pick (c.loop-pick.pick + 1) (image_cell c.args.size.columns c.args.size.picks c.args.pixels.now) refl)
 
 pub invariant_of-result : goal.invariant_of-result
