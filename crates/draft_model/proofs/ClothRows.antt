@@ -1,2 +1,68 @@
--- Rows of a cloth.
-use Rattle.std.proofs.Common.{◌≡◌}
+-- Rows that are filled cell by cell.
+use Rattle.std.proofs.Common.{◌≡◌, ◌≢◌, ◌+◌, ◌<◌, ◌≤◌, ℕ, pos, ◌%◌, Bool, false, List, [], length, get_or, set, take, drop, ◌++◌, sym, ap, subst, ◌∙◌, Some, ⊎_elim, arith, get_or-set_same, get_or-set_other}
+use Rattle.std.specs.Prelude.{All, slice_get, slice_index}
+use Rattle.std.proofs.Math.Seq.{take-append_seam}
+use Rattle.std.proofs.Math.Nat.{mod-eq_of_lt}
+use Rattle.std.proofs.lemmas.Bool.{cases_eq}
+use Rattle.std.proofs.lemmas.Option.{get_or_from_slice_get}
+use Rattle.weave_book.specs.declared.weaves.Weave.{Weave}
+use Rattle.weave_book.specs.declared.weaves.Weave.TheVariants.{Blank}
+use Rattle.weave_book.specs.Weaves.{mark}
+use Rattle.point_paper.specs.Papers.{PaperCells, BitCells, cell_of, bit_row, pick_of, line_by}
+use Rattle.point_paper.proofs.Cells.{get_or-line_by, length-line_by, line_is}
+use Rattle.draft_model.specs.Cloths.{ClothCells, cloth, raw_cell, tied, weave_of}
+
+-- one more place of a list has the formula's value
+pub one_more : {A : Type 0} (d : A) (xs : List A) (k : ℕ) (x : A) (cell : ℕ → A) → k < length xs → x ≡ cell k → ((j : ℕ) → j < k → get_or xs j d ≡ cell j)
+    → (j : ℕ) → j < k + 1 → get_or (set xs k x) j d ≡ cell j
+one_more d xs k x cell there is before j below = ⊎_elim
+    (λ (here : j ≡ k). subst (λ m. get_or (set xs k x) m d ≡ cell m) (sym here) (get_or-set_same xs k x d there ∙ is))
+    (λ (apart : j ≢ k). get_or-set_other xs k j x d apart ∙ before j (omega arith))
+    (cases_eq j k)
+
+-- the weave that the book gave is the colour's
+pub weave_read : (book : List Weave) (colour : ℕ) (weave : Weave) → slice_get book colour ≡ Some weave → weave ≡ weave_of book colour
+weave_read book colour weave read = sym (get_or_from_slice_get book colour weave Blank read)
+
+-- a line by two formulas that agree on its cells
+pub line_by_alike : {A : Type 0} (d : A) (n : ℕ) (one other : ℕ → A) → ((k : ℕ) → k < n → one k ≡ other k) → line_by n one ≡ line_by n other
+line_by_alike d n one other same = line_is d (line_by n one) n other (length-line_by n one) (λ k h. get_or-line_by n one k d h ∙ same k h)
+
+-- what a buffer holds once a whole line was put into it
+pub line_read : (len : ℕ) (old put read line : List ℕ) → read ≡ take len (put ++ drop (length put) old) → put ≡ line → length line ≡ len → read ≡ line
+line_read len old put read line is same long =
+    is ∙ ap (λ n. take n (put ++ drop (length put) old)) (sym long ∙ ap length (sym same)) ∙ take-append_seam put (drop (length put) old) ∙ same
+
+-- the colours of a pick are in the book where its cells are
+pub colours_in_book : (paper : PaperCells) (pick weaves : ℕ) (colours : List ℕ) → colours ≡ pick_of paper pick
+    → ((column : ℕ) → column < paper.columns → cell_of paper column pick < weaves) → All (λ colour. colour < weaves) colours
+colours_in_book paper pick weaves colours are each k d h =
+    let below : k < paper.columns = subst (λ n. k < n) (ap length are ∙ length-line_by paper.columns (λ column. cell_of paper column pick)) h in
+    subst (λ n. n < weaves) (sym (ap (λ xs. get_or xs k d) are ∙ get_or-line_by paper.columns (λ column. cell_of paper column pick) k d below)) (each k below)
+
+-- the marks of the colours that were read are the raw cells
+pub raw_read : (book : List Weave) (paper : PaperCells) (pick : ℕ) (colours : List ℕ) (row : List Bool) → colours ≡ pick_of paper pick
+    → row ≡ line_by (length colours) (λ column. mark (weave_of book (slice_index colours column)) column pick)
+    → row ≡ line_by paper.columns (λ column. raw_cell book paper column pick)
+raw_read book paper pick colours row are marked =
+    let long : length colours ≡ paper.columns = ap length are ∙ length-line_by paper.columns (λ column. cell_of paper column pick) in
+    marked ∙ ap (λ n. line_by n (λ column. mark (weave_of book (slice_index colours column)) column pick)) long
+    ∙ line_by_alike false paper.columns (λ column. mark (weave_of book (slice_index colours column)) column pick) (λ column. raw_cell book paper column pick)
+    (λ k h. ap (λ colour. mark (weave_of book colour) k pick) (ap (λ xs. get_or xs k 0) are ∙ get_or-line_by paper.columns (λ column. cell_of paper column pick) k 0 h))
+
+-- a bit paper and a cloth by their parts
+pub bits_are : (bits : BitCells) (columns : ℕ) (rows : List (List Bool)) → bits.columns ≡ columns → bits.rows ≡ rows → bits ≡ record { columns = columns; rows = rows }
+bits_are bits columns rows wide high =
+    ap (λ (n : ℕ). record { columns = n; rows = bits.rows }) wide ∙ ap (λ (r : List (List Bool)). record { columns = columns; rows = r }) high
+
+pub cloth_is : (cloth : ClothCells) (ends : ℕ) (rows : List (List Bool)) → cloth.ends ≡ ends → cloth.rows ≡ rows → cloth ≡ record { ends = ends; rows = rows }
+cloth_is cloth ends rows wide high =
+    ap (λ (n : ℕ). record { ends = n; rows = cloth.rows }) wide ∙ ap (λ (r : List (List Bool)). record { ends = ends; rows = r }) high
+
+-- a pick of the cloth is the paper's pick at the columns of the ends
+pub tied_row : (tie : List ℕ) (bits : BitCells) (pick : ℕ) (row : List Bool) → pick < length bits.rows → row ≡ bit_row bits pick
+    → tied tie row ≡ line_by (length tie) (λ e. cloth tie bits (pos e) (pos pick))
+tied_row tie bits pick row there is =
+    line_by_alike false (length tie) (λ e. get_or row (slice_index tie e) false) (λ e. cloth tie bits (pos e) (pos pick))
+    (λ e h. ap (λ xs. get_or xs (slice_index tie e) false) (is ∙ ap (λ p. get_or bits.rows p []) (sym (mod-eq_of_lt there)))
+    ∙ ap (λ k. get_or (get_or bits.rows (pick % length bits.rows) []) (slice_index tie k) false) (sym (mod-eq_of_lt h)))

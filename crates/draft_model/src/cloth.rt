@@ -76,9 +76,7 @@ impl Cloth {
     {
         let mut rows = Vec::with_capacity(*self.rows.allocator(), self.rows.len())?;
         for row in &self.rows {
-            let mut copy = BitRow::new(*self.rows.allocator(), self.ends)?;
-            copy.copy_from(row);
-            rows.push(copy)?;
+            rows.push(row.copy()?)?;
         }
         Ok(Cloth {
             ends: self.ends,

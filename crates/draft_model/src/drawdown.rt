@@ -1,8 +1,8 @@
 //! The plain functions from a paper to its cloth.
-ghost use Rattle.std.specs.Prelude.{◌≡◌, ◌<◌, length, slice_index, IfOk, All};
-ghost use Rattle.point_paper.specs.Papers.{line_by};
+ghost use Rattle.std.specs.Prelude.{◌≡◌, ◌<◌, ℕ, length, slice_index, IfOk, All};
+ghost use Rattle.point_paper.specs.Papers.{cell_of, line_by};
 ghost use Rattle.weave_book.specs.Weaves.{mark};
-ghost use Rattle.draft_model.specs.Cloths.{weave_of, tied};
+ghost use Rattle.draft_model.specs.Cloths.{raw_cell, weave_of, tied};
 ghost use Rattle.draft_model.specs.Designs.{Fits, IsPaperOf};
 ghost use Rattle.draft_model.specs.Drawdowns.{bound as bound_of, drawdown as drawdown_of};
 
@@ -45,7 +45,12 @@ pub fn drawdown(alloc: Global, design: &Design, paper: &Paper) -> Result<Cloth, 
 }
 
 // The counter that the readings of the paper want is made here, and goes with the call.
-fn bound_with<L: Ledger>(alloc: Global, design: &Design, paper: &Paper, blank: Blank) -> Result<BitPaper, OutOfMemory>
+fn bound_with<L: Ledger>(
+    alloc: Global,
+    design: &Design,
+    paper: &Paper,
+    blank: Blank,
+) -> Result<BitPaper, OutOfMemory>
     requires fits { Fits design.now }
     requires paper { IsPaperOf design.now paper.now }
     requires blank { (blank.name ≡ L.name) × (blank.parts ≡ L.parts) × (L.parts ≡ 1) }
@@ -57,11 +62,37 @@ fn bound_with<L: Ledger>(alloc: Global, design: &Design, paper: &Paper, blank: B
     let mut colours = Vec::from_elem(alloc, 0u8, design.size.columns as usize)?;
     let mut row = BitRow::new(alloc, design.size.columns)?;
     for pick in 0..design.size.picks {
-        paper.line(LineKind::Pick, pick, &mut colours, &mut steps);
-        mark_row(&design.book, &colours, pick, &mut row);
+        raw_row(
+            &design.book,
+            paper,
+            pick,
+            &mut colours,
+            &mut row,
+            &mut steps,
+        );
         bits.set_row(pick, &row);
     }
     Ok(bits)
+}
+
+// The raw cells of a pick.
+fn raw_row<L: Ledger>(
+    book: &Book,
+    paper: &Paper,
+    pick: u32,
+    colours: &mut Vec<u8>,
+    row: &mut BitRow,
+    steps: &mut Steps<L>,
+)
+    requires pick { pick < paper.now.picks }
+    requires colours { length colours.old.items ≡ paper.now.columns }
+    requires columns { length row.old ≡ paper.now.columns }
+    requires book { (column : ℕ) → column < paper.now.columns → cell_of paper.now column pick < length book.now }
+    ensures row { row.new ≡ line_by paper.now.columns (λ column. raw_cell book.now paper.now column pick) }
+    ensures colours { length colours.new.items ≡ paper.now.columns }
+{
+    paper.line(LineKind::Pick, pick, colours, steps);
+    mark_row(book, colours, pick, row);
 }
 
 // The marks of a pick's colours.

@@ -1,0 +1,13 @@
+use Rattle.std.proofs.Common.{◌≡◌, ◌<◌, ℕ, [], length, get_or}
+use Rattle.point_paper.specs.Papers.{line_by}
+use Rattle.draft_model.specs.Cloths.{raw_cell}
+use Rattle.draft_model.proofs.drawdown.bound_with.Given as goal
+
+abbrev pub invariant-loop-pick : goal.invariant-loop-pick
+invariant-loop-pick g l = record {
+  columns : l.bits.columns ≡ l.design.size.columns;
+  picks : length l.bits.rows ≡ l.design.size.picks;
+  colours : length l.colours.items ≡ l.design.size.columns;
+  row : length l.row ≡ l.design.size.columns;
+  rows : (k : ℕ) → k < l.pick → get_or l.bits.rows k [] ≡ line_by l.paper.columns (λ column. raw_cell l.design.book l.paper column k);
+}
