@@ -1,10 +1,5 @@
-pub mod Commands
 pub mod Strokes
-pub mod Sessions
 pub mod Plans
 pub mod Journals
 pub mod Repeats
 pub mod Logs
-pub mod Reports
-pub mod Faults
-pub mod Answers

@@ -1,6 +1,6 @@
 //! The looms' part of a run.
-ghost use Rattle.std.specs.Prelude.{◌≡◌, length, replicate, map, IfOk};
-ghost use Rattle.std.specs.List.{concat};
+ghost use Rattle.std.specs.Prelude.{◌≡◌, ◌+◌, ◌/◌, ◌++◌, ℕ, List, length, replicate, IfOk};
+ghost use Rattle.sha2.specs.Hashers.{Holds256};
 ghost use Rattle.mill_base.specs.Bits.{packed};
 ghost use Rattle.draft_model.specs.Designs.{Fits, IsPaperOf};
 ghost use Rattle.draft_model.specs.Drawdowns.{drawdown as drawdown_of};
@@ -11,6 +11,7 @@ use crate::version_journal::Repeat;
 use draft_model::cloth::Cloth;
 use draft_model::design::Design;
 use draft_model::drawdown::drawdown;
+use mill_base::bit_row::BitRow;
 use mill_base::listed::Listed;
 use mill_base::memory::OutOfMemory;
 use point_paper::paper::Paper;
@@ -59,8 +60,17 @@ fn digest_of_cloth(alloc: Global, cloth: &Cloth) -> Result<[u8; 32], OutOfMemory
     let mut hasher = Sha256::new();
     let mut bytes = Vec::from_elem(alloc, 0u8, (cloth.ends() as usize + 7) / 8)?;
     for pick in 0..cloth.picks() {
-        cloth.row(pick).pack(&mut bytes);
-        hasher.update(bytes.as_slice());
+        hash_row(cloth.row(pick), &mut bytes, &mut hasher);
     }
     Ok(hasher.finalize())
+}
+
+// Feeds the packed row to the hasher, through the bytes.
+fn hash_row(row: &BitRow, bytes: &mut Vec<u8>, hasher: &mut Sha256)
+    requires { length bytes.old.items ≡ (length row.now + 7) / 8 }
+    ensures room { length bytes.new.items ≡ length bytes.old.items }
+    ensures hashed { (message : List ℕ) → Holds256 hasher.old message → Holds256 hasher.new (message ++ packed row.now) }
+{
+    row.pack(bytes);
+    hasher.update(bytes.as_slice());
 }

@@ -1,5 +1,5 @@
 //! The run of a session in plain order, on one thread: all acts of the shift, and then the repeats of the loom with the newest version.
-ghost use Rattle.std.specs.Prelude.{◌≡◌, ◌<◌, ◌≤◌, ◌++◌, ◌∷◌, [], length, IfOk, All};
+ghost use Rattle.std.specs.Prelude.{◌≡◌, ◌<◌, ◌≤◌, ◌+◌, ◌++◌, ◌∷◌, [], length, IfOk, All};
 ghost use Rattle.point_paper.specs.Papers.{IsPaper};
 ghost use Rattle.draft_model.specs.Designs.{IsPaperOf};
 ghost use Rattle.studio_run.specs.Plans.{FitsSession, RunsAlone, IsActOf};

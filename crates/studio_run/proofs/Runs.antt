@@ -1,0 +1,71 @@
+-- Rows that are hashed, and acts that are done, one after another.
+use Rattle.std.proofs.Common.{◌≡◌, ◌+◌, ◌<◌, ℕ, List, [], ◌∷◌, ◌++◌, length, get_or, map, take, refl, sym, ap, ◌∙◌, append_assoc, append-nil, add-one}
+use Rattle.std.proofs.Math.Seq.{take-suc, take-append_seam}
+use Rattle.std.specs.List.{concat}
+use Rattle.std.specs.Prelude.{Bool}
+use Rattle.mill_base.specs.Bits.{packed}
+
+concat-snoc : (xs : List (List ℕ)) (x : List ℕ) → concat (xs ++ x ∷ []) ≡ concat xs ++ x
+concat-snoc [] x = append-nil x
+concat-snoc (y ∷ xs) x = ap (λ l. y ++ l) (concat-snoc xs x) ∙ sym (append_assoc y (concat xs) x)
+
+map-snoc : {A B : Type 0} (f : A → B) (xs : List A) (x : A) → map f (xs ++ x ∷ []) ≡ map f xs ++ f x ∷ []
+map-snoc f [] x = refl
+map-snoc f (y ∷ xs) x = ap (λ l. f y ∷ l) (map-snoc f xs x)
+
+-- the packed bytes of one row more
+pub packed_more : (rows : List (List Bool)) (k : ℕ) (row : List Bool) → k < length rows → row ≡ get_or rows k []
+    → concat (map packed (take k rows)) ++ packed row ≡ concat (map packed (take (k + 1) rows))
+packed_more rows k row there is = sym (rw (add-one k, take-suc rows k [] there)
+    (ap concat (map-snoc packed (take k rows) (get_or rows k [])) ∙ concat-snoc (map packed (take k rows)) (packed (get_or rows k []))
+    ∙ ap (λ r. concat (map packed (take k rows)) ++ packed r) (sym is)))
+
+-- a dot is painted as the span of its one cell
+dot_cell : (colour cell column c pick p : ℕ) → (if pick == p && nat_le c column && nat_lt column (c + 1) then colour else cell) ≡ unwrap_or (if column == c && pick == p then Some colour else None) cell
+dot_cell colour cell column c pick p = grind (arith, nat_tests)
+
+paper_by_alike : (columns picks : ℕ) (one other : ℕ → ℕ → ℕ) → ((column pick : ℕ) → column < columns → pick < picks → one column pick ≡ other column pick)
+    → paper_by columns picks one ≡ paper_by columns picks other
+paper_by_alike columns picks one other same = paper_is (paper_by columns picks one) other (IsPaper-paper_by columns picks one)
+    (λ column pick c p. cell_of-paper_by columns picks one column pick c p ∙ same column pick c p)
+
+pub dot_painted : (paper : PaperCells) (colour column pick : ℕ)
+    → paper_by paper.columns paper.picks (after_span paper (record { column = column; pick = pick; length = 1; colour = colour })) ≡ after paper (Dot colour column pick)
+dot_painted paper colour column pick = paper_by_alike paper.columns paper.picks (after_span paper (record { column = column; pick = pick; length = 1; colour = colour }))
+    (λ c p. unwrap_or (paints (Dot colour column pick) c p) (cell_of paper c p)) (λ c p h k. dot_cell colour (cell_of paper c p) c column p pick)
+
+-- a paper of the design stays one when a colour of the book is painted
+pub painted_fits : (design : Design) (paper : PaperCells) (span : Span) → span.colour < length design.book → IsPaperOf design paper
+    → IsPaperOf design (paper_by paper.columns paper.picks (after_span paper span))
+painted_fits design paper span inside fits = record {
+  columns = fits.columns;
+  picks = fits.picks;
+  colours = λ column pick c p. subst (λ n. n < length design.book) (sym (cell_of-paper_by paper.columns paper.picks (after_span paper span) column pick c p))
+    (either (covers span column pick) span.colour (cell_of paper column pick) (length design.book) inside (fits.colours column pick c p));
+} where
+  either : (b : Bool) (x y n : ℕ) → x < n → y < n → (if b then x else y) < n
+  either true x y n h k = h
+  either false x y n h k = k
+
+-- the desk after a dot and after a commit
+pub desk_after_dot : (h : History) (paper newest painted : PaperCells) (version colour column pick : ℕ) → IsDesk h paper newest version
+    → painted ≡ paper_by paper.columns paper.picks (after_span paper (record { column = column; pick = pick; length = 1; colour = colour }))
+    → IsDesk (step h (Dot colour column pick)) painted newest version
+desk_after_dot h paper newest painted version colour column pick desk is = record {
+  painted = is ∙ dot_painted paper colour column pick ∙ ap (λ p. after p (Dot colour column pick)) desk.painted;
+  last = desk.last;
+  current = desk.current;
+}
+
+pub desk_after_commit : (h : History) (paper newest copied : PaperCells) (version : ℕ) → IsDesk h paper newest version → copied ≡ paper
+    → IsDesk (step h Commit) paper copied (version + 1)
+desk_after_commit h paper newest copied version desk is = record {
+  painted = desk.painted;
+  last = length-append h.versions (h.paper ∷ []) ∙ ap (λ n. n + 1) desk.last;
+  current = slice_get_read (h.versions ++ h.paper ∷ []) (version + 1 + 1) (version + 1) copied (sym (length-append h.versions (h.paper ∷ []) ∙ ap (λ n. n + 1) desk.last)) (omega arith)
+    (is ∙ desk.painted ∙ sym (ap (λ n. get_or (h.versions ++ h.paper ∷ []) n copied) (sym desk.last) ∙ get_or_seam h.versions h.paper copied));
+}
+
+pub accepted_reply : (h : History) (paper newest : PaperCells) (version : ℕ) → IsDesk h paper newest version
+    → (step h Commit).replies ≡ h.replies ++ Accepted (version + 1) ∷ []
+accepted_reply h paper newest version desk = ap (λ n. h.replies ++ Accepted n ∷ []) desk.last

@@ -1,0 +1,15 @@
+use Rattle.std.proofs.Common.{◌≡◌, length, subst, ap, ◌∙◌, sym, take, map, List, ℕ, [], arith}
+use Rattle.std.specs.List.{concat}
+use Rattle.sha2.specs.Hashers.{Holds256}
+use Rattle.mill_base.specs.Bits.{packed}
+use Rattle.studio_run.proofs.Runs.{packed_more}
+use Rattle.studio_run.proofs.loom_threads.digest_of_cloth.Goals as goal
+
+pub loop-pick-preserved : goal.loop-pick-preserved
+loop-pick-preserved c = record {
+  room = c.hash_row.ensures.room ∙ c.loop-pick.invariant.room;
+  hashed = subst (λ (message : List ℕ). Holds256 c.hash_row.new.hasher message)
+    (packed_more c.args.cloth.now.rows c.loop-pick.pick c.row.result.now (omega (arith, c.loop-pick-test.true, c.picks-pick-end.ensures)) c.row.ensures.row)
+    (c.hash_row.ensures.hashed _ c.loop-pick.invariant.hashed);
+}
+
