@@ -1,0 +1,5 @@
+pub mod Lists
+pub mod Rounds
+pub mod Builds
+pub mod Columns
+pub mod Firsts
