@@ -60,7 +60,11 @@ fn round_length(section: &Section) -> u64
 }
 
 /// The column of each end.
-pub fn join_sections(alloc: Global, sections: &[Section], columns: u32) -> Result<Vec<u32>, OutOfMemory>
+pub fn join_sections(
+    alloc: Global,
+    sections: &[Section],
+    columns: u32,
+) -> Result<Vec<u32>, OutOfMemory>
     requires few { columns ≤ 4096 }
     requires there { All (λ s. is_there columns s ≡ true) sections.now }
     ensures { IfOk result (λ v. v.items ≡ tie_of sections.now columns) }
@@ -90,7 +94,12 @@ fn push_round(ends: &mut Vec<u32>, section: &Section) -> Result<(), OutOfMemory>
     requires { section.now.from ≤ section.now.to × section.now.to < 4096 }
     ensures { OnOk result (ends.new.items ≡ ends.old.items ++ section_columns section.now) }
 {
-    let Section { kind, from, to, times: _ } = *section;
+    let Section {
+        kind,
+        from,
+        to,
+        times: _,
+    } = *section;
     match kind {
         SectionKind::Straight => push_rising(ends, from, to + 1),
         SectionKind::Reverse => push_falling(ends, from, to + 1),

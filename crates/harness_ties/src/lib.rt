@@ -6,4 +6,6 @@ mod grouping;
 mod joining;
 pub mod laws;
 pub mod section;
+#[cfg(test)]
+mod tests;
 pub mod tie;

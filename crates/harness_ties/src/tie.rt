@@ -4,7 +4,7 @@ ghost use Rattle.harness_ties.specs.Ties.{TieValue, IsTie, tie_of, ends_of_colum
 ghost use Rattle.harness_ties.specs.Faults.{tie_fault};
 
 use crate::fault::TieFault;
-use crate::grouping::{count_ends, first_untied, group_ends, part_of, Groups};
+use crate::grouping::{Groups, count_ends, first_untied, group_ends, part_of};
 use crate::joining::{check_sections, join_sections};
 use crate::section::Section;
 use mill_base::memory::OutOfMemory;
