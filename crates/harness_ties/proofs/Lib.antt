@@ -1,0 +1,6 @@
+pub mod Ends
+pub mod Lists
+pub mod Rounds
+pub mod Builds
+pub mod Columns
+pub mod Firsts
