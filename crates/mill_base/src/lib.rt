@@ -7,3 +7,4 @@ pub mod memory;
 pub mod name_text;
 pub mod size;
 pub mod steps;
+pub mod words;
