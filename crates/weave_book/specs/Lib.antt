@@ -1,2 +1,4 @@
 pub mod Rows
+pub mod Satins
+pub mod Spelling
 pub mod Weaves

@@ -1,6 +1,10 @@
-//! The weave book: the weaves that the colours of a point paper stand for, and where each has its marks.
+//! The weave book: the weaves that the colours of a point paper stand for, how they are spelled, and where each has its
+//! marks.
 #![tactic(auto)]
 
 pub mod book;
+pub mod fault;
 pub mod rows;
+pub mod satins;
+pub mod spelling;
 pub mod weaves;
