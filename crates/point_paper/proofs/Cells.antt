@@ -77,6 +77,17 @@ pub paper_is : (paper : PaperCells) (cell : ℕ → ℕ → ℕ) → IsPaper pap
 paper_is paper cell whole each =
     ap (λ (xs : List ℕ). record { columns = paper.columns; picks = paper.picks; colours = xs }) (colours_are paper.colours paper.columns paper.picks cell whole each)
 
+pub same_papers : (one other : PaperCells) → IsPaper one → IsPaper other → one.columns ≡ other.columns → one.picks ≡ other.picks
+    → ((column pick : ℕ) → column < one.columns → pick < one.picks → cell_of one column pick ≡ cell_of other column pick) → one ≡ other
+same_papers one other whole whole_too columns picks each =
+    paper_is one (cell_of other) whole each ∙ ap (λ n. paper_by n one.picks (cell_of other)) columns ∙ ap (λ n. paper_by other.columns n (cell_of other)) picks
+    ∙ sym (paper_is other (cell_of other) whole_too (λ column pick c p. refl))
+
+-- formulas that agree on each cell make one paper
+pub papers_alike : (columns picks : ℕ) (cell other : ℕ → ℕ → ℕ) → ((column pick : ℕ) → column < columns → pick < picks → cell column pick ≡ other column pick) → paper_by columns picks cell ≡ paper_by columns picks other
+papers_alike columns picks cell other each =
+    paper_is (paper_by columns picks cell) other (length-colours_by columns picks cell) (λ column pick c p. get_or-colours_by columns picks cell column pick c p ∙ each column pick c p)
+
 pub colours_of_one : (columns picks colour : ℕ) → replicate (picks * columns) colour ≡ colours_by columns picks (λ column pick. colour)
 colours_of_one columns picks colour = colours_are (replicate (picks * columns) colour) columns picks (λ column pick. colour) (length-replicate (picks * columns) colour)
     (λ column pick c p. get_or-replicate (picks * columns) (pick * columns + column) colour 0 (place_below columns picks column pick c p))

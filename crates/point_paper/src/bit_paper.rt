@@ -88,4 +88,25 @@ impl BitPaper {
     {
         self.rows[pick as usize].copy_from(row);
     }
+
+    /// An equal paper in memory of its own.
+    pub fn copy(&self) -> Result<BitPaper, OutOfMemory>
+        ensures { IfOk result (λ b. b ≡ self.now) }
+    {
+        let rows = copy_rows(*self.rows.allocator(), &self.rows)?;
+        Ok(BitPaper {
+            size: self.size,
+            rows,
+        })
+    }
+}
+
+fn copy_rows(alloc: Global, rows: &[BitRow]) -> Result<Vec<BitRow>, OutOfMemory>
+    ensures { IfOk result (λ copies. copies.items ≡ rows.now) }
+{
+    let mut copies = Vec::with_capacity(alloc, rows.len())?;
+    for row in rows {
+        copies.push(row.copy()?)?;
+    }
+    Ok(copies)
 }

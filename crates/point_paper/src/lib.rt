@@ -2,6 +2,7 @@
 #![tactic(auto)]
 
 pub mod bit_paper;
+pub mod laws;
 pub mod paper;
 #[cfg(test)]
 mod tests;

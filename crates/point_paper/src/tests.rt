@@ -13,6 +13,24 @@ use std::marker::Brand;
 use std::sync::ledger::{Blank, Ledger};
 use std::test::Fail;
 
+fn size_of(columns: u32, picks: u32) -> Size
+    ensures { result ≡ record { columns = columns; picks = picks } }
+{
+    Size { columns, picks }
+}
+
+fn span(column: u32, pick: u32, length: u32, colour: u8) -> Span
+    ensures { result ≡ record { column = column; pick = pick; length = length; colour = colour } }
+{
+    Span {
+        column,
+        pick,
+        length,
+        colour,
+    }
+}
+
+/// A pick or a column, read with a counter that nobody asks for.
 fn line(alloc: Global, paper: &Paper, kind: LineKind, index: u32) -> Result<Vec<u8>, OutOfMemory>
     requires { index < lines_of kind paper.now }
 {
@@ -64,10 +82,7 @@ fn marks(alloc: Global, bits: &BitPaper) -> Result<Vec<u8>, OutOfMemory> {
 #[test]
 fn the_top_image_row_is_the_highest_pick(rt: HostRuntime) -> Result<(), Fail> {
     let alloc = rt.alloc();
-    let size = Size {
-        columns: 3,
-        picks: 2,
-    };
+    let size = size_of(3, 2);
     let paper = Paper::from_rows(alloc, size, &[1, 2, 0, 0, 1, 2])?;
     assert_eq!(rt; paper.size(), size);
     assert_eq!(rt;
@@ -92,49 +107,22 @@ fn the_top_image_row_is_the_highest_pick(rt: HostRuntime) -> Result<(), Fail> {
 #[test]
 fn a_span_paints_its_cells_alone(rt: HostRuntime) -> Result<(), Fail> {
     let alloc = rt.alloc();
-    let mut paper = Paper::blank(
-        alloc,
-        Size {
-            columns: 4,
-            picks: 3,
-        },
-        9,
-    )?;
-    paper.paint_span(&Span {
-        column: 3,
-        pick: 1,
-        length: 1,
-        colour: 1,
-    });
+    let mut paper = Paper::blank(alloc, size_of(4, 3), 9)?;
+    paper.paint_span(&span(3, 1, 1, 1));
     assert_eq!(rt;
         picks(alloc, &paper)?.as_slice(),
         [9, 9, 9, 9, 9, 9, 9, 1, 9, 9, 9, 9].as_slice(),
         "at the right edge"
     );
     let before = paper.copy()?;
-    paper.paint_span(&Span {
-        column: 0,
-        pick: 2,
-        length: 4,
-        colour: 2,
-    });
+    paper.paint_span(&span(0, 2, 4, 2));
     assert_eq!(rt;
         picks(alloc, &paper)?.as_slice(),
         [9, 9, 9, 9, 9, 9, 9, 1, 2, 2, 2, 2].as_slice(),
         "over a whole pick"
     );
-    paper.paint_span(&Span {
-        column: 1,
-        pick: 0,
-        length: 2,
-        colour: 3,
-    });
-    paper.paint_span(&Span {
-        column: 4,
-        pick: 0,
-        length: 0,
-        colour: 4,
-    });
+    paper.paint_span(&span(1, 0, 2, 3));
+    paper.paint_span(&span(4, 0, 0, 4));
     assert_eq!(rt;
         picks(alloc, &paper)?.as_slice(),
         [9, 3, 3, 9, 9, 9, 9, 1, 2, 2, 2, 2].as_slice(),
@@ -151,21 +139,9 @@ fn a_span_paints_its_cells_alone(rt: HostRuntime) -> Result<(), Fail> {
 #[test]
 fn a_column_is_read_back_after_spans_on_every_pick(rt: HostRuntime) -> Result<(), Fail> {
     let alloc = rt.alloc();
-    let mut paper = Paper::blank(
-        alloc,
-        Size {
-            columns: 3,
-            picks: 4,
-        },
-        9,
-    )?;
+    let mut paper = Paper::blank(alloc, size_of(3, 4), 9)?;
     for pick in 0..4 {
-        paper.paint_span(&Span {
-            column: 1,
-            pick,
-            length: 2,
-            colour: pick as u8,
-        });
+        paper.paint_span(&span(1, pick, 2, pick as u8));
     }
     assert_eq!(rt;
         line(alloc, &paper, LineKind::Column, 0)?.as_slice(),
@@ -206,14 +182,7 @@ fn counted_readings<L: Ledger>(paper: &Paper, blank: Blank) -> [u8; 7]
 
 #[test]
 fn mixed_readings_tick_once_for_each_cell(rt: HostRuntime) -> Result<(), Fail> {
-    let paper = Paper::from_rows(
-        rt.alloc(),
-        Size {
-            columns: 3,
-            picks: 2,
-        },
-        &[1, 2, 0, 0, 1, 2],
-    )?;
+    let paper = Paper::from_rows(rt.alloc(), size_of(3, 2), &[1, 2, 0, 0, 1, 2])?;
     assert_eq!(rt;
         counted_readings::<Brand>(&paper, Blank::new(1)),
         [0, 1, 2, 0, 2, 0, 2]
@@ -222,28 +191,11 @@ fn mixed_readings_tick_once_for_each_cell(rt: HostRuntime) -> Result<(), Fail> {
 }
 
 #[test]
-fn the_largest_paper_is_made_painted_and_read(rt: HostRuntime) -> Result<(), Fail> {
+fn the_largest_papers_are_made_painted_and_read(rt: HostRuntime) -> Result<(), Fail> {
     let alloc = rt.alloc();
-    let mut paper = Paper::blank(
-        alloc,
-        Size {
-            columns: 4096,
-            picks: 8192,
-        },
-        1,
-    )?;
-    paper.paint_span(&Span {
-        column: 4095,
-        pick: 8191,
-        length: 1,
-        colour: 2,
-    });
-    paper.paint_span(&Span {
-        column: 0,
-        pick: 4096,
-        length: 4096,
-        colour: 3,
-    });
+    let mut paper = Paper::blank(alloc, size_of(4096, 8192), 1)?;
+    paper.paint_span(&span(4095, 8191, 1, 2));
+    paper.paint_span(&span(0, 4096, 4096, 3));
     let top = line(alloc, &paper, LineKind::Pick, 8191)?;
     assert_eq!(rt; top.iter().filter(|cell| **cell == 1).count(), 4095);
     assert_eq!(rt; top.last(), Some(&2));
@@ -251,16 +203,23 @@ fn the_largest_paper_is_made_painted_and_read(rt: HostRuntime) -> Result<(), Fai
     assert_eq!(rt; right.iter().filter(|cell| **cell == 1).count(), 8190);
     assert_eq!(rt; right.get(4096), Some(&3));
     assert_eq!(rt; right.last(), Some(&2));
+    let mut bits = BitPaper::new(alloc, size_of(4096, 8192))?;
+    bits.set(4095, 8191, true);
+    assert_eq!(rt;
+        (
+            bits.get(4095, 8191),
+            bits.get(4094, 8191),
+            bits.get(4095, 8190)
+        ),
+        (true, false, false)
+    );
     Ok(())
 }
 
 #[test]
 fn a_bit_paper_is_set_by_cells_and_by_rows(rt: HostRuntime) -> Result<(), Fail> {
     let alloc = rt.alloc();
-    let size = Size {
-        columns: 3,
-        picks: 2,
-    };
+    let size = size_of(3, 2);
     let mut bits = BitPaper::new(alloc, size)?;
     assert_eq!(rt; bits.size(), size);
     assert_eq!(rt;
@@ -285,10 +244,16 @@ fn a_bit_paper_is_set_by_cells_and_by_rows(rt: HostRuntime) -> Result<(), Fail> 
         [0, 0, 1, 1, 1, 0].as_slice()
     );
     assert_eq!(rt; bits.row(1).get(1), true);
+    let before = bits.copy()?;
     bits.set(0, 1, false);
     assert_eq!(rt;
         marks(alloc, &bits)?.as_slice(),
         [0, 0, 1, 0, 1, 0].as_slice()
+    );
+    assert_eq!(rt;
+        marks(alloc, &before)?.as_slice(),
+        [0, 0, 1, 1, 1, 0].as_slice(),
+        "a copy stays"
     );
     Ok(())
 }

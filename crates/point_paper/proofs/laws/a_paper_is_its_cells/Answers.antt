@@ -1,0 +1,5 @@
+use Rattle.point_paper.proofs.Cells.{same_papers}
+use Rattle.point_paper.proofs.laws.a_paper_is_its_cells.Goals as goal
+
+pub returns : goal.returns
+returns c = same_papers
