@@ -1,4 +1,5 @@
 pub mod Cuts
 pub mod Filing
 pub mod Joined
+pub mod Answered
 pub mod Counts

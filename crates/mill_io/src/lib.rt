@@ -2,9 +2,13 @@
 #![tactic(auto)]
 
 pub mod faults;
+pub mod file_shelf;
 pub mod gate;
 pub mod memory_shelf;
 pub mod memory_sink;
+pub mod output_sink;
 pub mod pieces;
 pub mod shelf;
 pub mod sink;
+#[cfg(test)]
+mod tests;
