@@ -1,0 +1,25 @@
+use Rattle.std.proofs.Common.{◌≡◌, ◌≢◌, ◌+◌, ◌/◌, ◌<◌, ℕ, false, length, ◌∙◌, ⊎_elim, sym, subst, arith}
+use Rattle.std.proofs.lemmas.List.FromFn.{fill_by_all}
+use Rattle.mill_base.proofs.Rows.{same_or_not}
+use Rattle.binder_marks.specs.Bound.{bound_at, bound_line}
+use Rattle.binder_marks.proofs.Cells.{cell_of_words}
+use Rattle.binder_marks.proofs.bind_line.Goals as goal
+
+pub loop-at-preserved : goal.loop-at-preserved
+loop-at-preserved c = record {
+  long = c.put_word.ensures.len ∙ c.loop-at.invariant.long;
+  bound = λ k below within. ⊎_elim
+      (λ (here : k / 64 ≡ c.loop-at.at).
+      c.put_word.ensures.here k (subst (λ (n : ℕ). k < n) (sym c.loop-at.invariant.long) within) here ∙ c.word_of_line-word.ensures k here
+      ∙ cell_of_words c.words.result.now c.words-in-loop-at.result.now c.words-in-loop-at-2.result.now c.words-in-loop-at-3.result.now
+      c.args.raw.now c.args.long.now c.args.raise.now c.args.sink.now
+      c.words.ensures c.words-in-loop-at.ensures c.words-in-loop-at-2.ensures c.words-in-loop-at-3.ensures k)
+      (λ (away : k / 64 ≢ c.loop-at.at). c.put_word.ensures.others k away ∙ c.loop-at.invariant.bound k (omega arith) within)
+      (same_or_not (k / 64) c.loop-at.at);
+}
+
+pub returns-clause-line : goal.returns-clause-line
+unfolding bound_line
+returns-clause-line c =
+    fill_by_all (bound_at c.args.raw.now c.args.long.now c.args.raise.now c.args.sink.now) c.loop-at.out (length c.args.raw.now) false c.loop-at.invariant.long
+    (λ k h. c.loop-at.invariant.bound k (let l = c.len.ensures in let w = c.div_ceil-words.ensures in omega (arith, l, w, c.loop-at-test.false)) h)
