@@ -1,9 +1,20 @@
 -- Rows that are hashed, and acts that are done, one after another.
-use Rattle.std.proofs.Common.{◌≡◌, ◌+◌, ◌<◌, ℕ, List, [], ◌∷◌, ◌++◌, length, get_or, map, take, refl, sym, ap, ◌∙◌, append_assoc, append-nil, add-one}
-use Rattle.std.proofs.Math.Seq.{take-suc, take-append_seam}
+use Rattle.std.proofs.Common.{◌≡◌, ◌+◌, ◌<◌, ◌==◌, ◌&&◌, nat_le, nat_lt, ℕ, Bool, true, false, List, [], ◌∷◌, ◌++◌, Some, None, length, get_or, map, take, refl, sym, ap, subst, ◌∙◌, append_assoc, append-nil, length-append, add-one, arith}
+use Rattle.std.specs.Prelude.{if◌then◌else◌, unwrap_or, slice_get}
+use Rattle.std.proofs.Math.Seq.{take-suc, get_or-append_seam}
+use Rattle.std.proofs.lemmas.Bool.Decides.{nat_tests}
+use Rattle.std.proofs.lemmas.Option.{slice_get_read}
 use Rattle.std.specs.List.{concat}
-use Rattle.std.specs.Prelude.{Bool}
 use Rattle.mill_base.specs.Bits.{packed}
+use Rattle.point_paper.specs.declared.paper.Span.{Span}
+use Rattle.point_paper.specs.Papers.{PaperCells, cell_of, paper_by, covers, after_span}
+use Rattle.point_paper.proofs.Cells.{paper_is, IsPaper-paper_by, cell_of-paper_by}
+use Rattle.draft_model.specs.declared.design.Design.{Design}
+use Rattle.draft_model.specs.Designs.{IsPaperOf}
+use Rattle.studio_run.specs.declared.strokes.Act.TheVariants.{Dot, Commit}
+use Rattle.studio_run.specs.declared.version_journal.Reply.TheVariants.{Accepted}
+use Rattle.studio_run.specs.Strokes.{after, paints}
+use Rattle.studio_run.specs.Journals.{History, IsDesk, step}
 
 concat-snoc : (xs : List (List ℕ)) (x : List ℕ) → concat (xs ++ x ∷ []) ≡ concat xs ++ x
 concat-snoc [] x = append-nil x
@@ -63,7 +74,7 @@ desk_after_commit h paper newest copied version desk is = record {
   painted = desk.painted;
   last = length-append h.versions (h.paper ∷ []) ∙ ap (λ n. n + 1) desk.last;
   current = slice_get_read (h.versions ++ h.paper ∷ []) (version + 1 + 1) (version + 1) copied (sym (length-append h.versions (h.paper ∷ []) ∙ ap (λ n. n + 1) desk.last)) (omega arith)
-    (is ∙ desk.painted ∙ sym (ap (λ n. get_or (h.versions ++ h.paper ∷ []) n copied) (sym desk.last) ∙ get_or_seam h.versions h.paper copied));
+    (is ∙ desk.painted ∙ sym (ap (λ n. get_or (h.versions ++ h.paper ∷ []) n copied) (sym desk.last) ∙ get_or-append_seam h.versions h.paper [] copied));
 }
 
 pub accepted_reply : (h : History) (paper newest : PaperCells) (version : ℕ) → IsDesk h paper newest version
