@@ -1,9 +1,10 @@
 -- Rows that are hashed, and acts that are done, one after another.
-use Rattle.std.proofs.Common.{◌≡◌, ◌+◌, ◌<◌, ◌==◌, ◌&&◌, nat_le, nat_lt, ℕ, Bool, true, false, List, [], ◌∷◌, ◌++◌, Some, None, length, get_or, map, take, refl, sym, ap, subst, ◌∙◌, append_assoc, append-nil, length-append, add-one, arith}
+use Rattle.std.proofs.Common.{◌≡◌, ◌+◌, ◌<◌, ◌==◌, ◌&&◌, nat_le, nat_lt, ℕ, Bool, true, false, List, [], ◌∷◌, ◌++◌, Some, None, length, get_or, map, fold, take, suc, length-take, refl, sym, ap, subst, ◌∙◌, append_assoc, append-nil, length-append, add-one, arith}
 use Rattle.std.specs.Prelude.{if◌then◌else◌, unwrap_or, slice_get}
 use Rattle.std.proofs.Math.Seq.{take-suc, get_or-append_seam}
 use Rattle.std.proofs.lemmas.Bool.Decides.{nat_tests}
 use Rattle.std.proofs.lemmas.Option.{slice_get_read}
+use Rattle.std.proofs.lemmas.List.Sums.{fold-append}
 use Rattle.std.specs.List.{concat}
 use Rattle.mill_base.specs.Bits.{packed}
 use Rattle.point_paper.specs.declared.paper.Span.{Span}
@@ -11,10 +12,14 @@ use Rattle.point_paper.specs.Papers.{PaperCells, cell_of, paper_by, covers, afte
 use Rattle.point_paper.proofs.Cells.{paper_is, IsPaper-paper_by, cell_of-paper_by}
 use Rattle.draft_model.specs.declared.design.Design.{Design}
 use Rattle.draft_model.specs.Designs.{IsPaperOf}
+use Rattle.studio_run.specs.declared.strokes.Act.{Act}
 use Rattle.studio_run.specs.declared.strokes.Act.TheVariants.{Dot, Commit}
-use Rattle.studio_run.specs.declared.version_journal.Reply.TheVariants.{Accepted}
+use Rattle.studio_run.specs.declared.version_journal.Reply.{Reply}
+use Rattle.studio_run.specs.declared.version_journal.Reply.TheVariants.{Painted, Accepted}
+use Rattle.studio_run.specs.declared.version_journal.Entry.{Entry}
+use Rattle.studio_run.specs.Logs.{entries_from}
 use Rattle.studio_run.specs.Strokes.{after, paints}
-use Rattle.studio_run.specs.Journals.{History, IsDesk, step}
+use Rattle.studio_run.specs.Journals.{History, IsDesk, begun, history, step}
 
 concat-snoc : (xs : List (List ℕ)) (x : List ℕ) → concat (xs ++ x ∷ []) ≡ concat xs ++ x
 concat-snoc [] x = append-nil x
@@ -80,3 +85,39 @@ desk_after_commit h paper newest copied version desk is = record {
 pub accepted_reply : (h : History) (paper newest : PaperCells) (version : ℕ) → IsDesk h paper newest version
     → (step h Commit).replies ≡ h.replies ++ Accepted (version + 1) ∷ []
 accepted_reply h paper newest version desk = ap (λ n. h.replies ++ Accepted n ∷ []) desk.last
+
+-- the history of one act more
+pub history_more : (opening : PaperCells) (acts : List Act) (k : ℕ) (d : Act) → k < length acts → history opening (take (k + 1) acts) ≡ step (history opening (take k acts)) (get_or acts k d)
+history_more opening acts k d there = rw (add-one k, take-suc acts k d there) (fold-append step (begun opening) (take k acts) (get_or acts k d ∷ []))
+
+-- each act has one reply
+length-replied : (h : History) (act : Act) → length (step h act).replies ≡ length h.replies + 1
+length-replied h (Dot colour column pick) = length-append h.replies (Painted ∷ [])
+length-replied h Commit = length-append h.replies (Accepted (length h.versions) ∷ [])
+
+length-replies_from : (h : History) (acts : List Act) → length (fold step h acts).replies ≡ length h.replies + length acts
+length-replies_from h [] = omega arith
+length-replies_from h (act ∷ acts) = omega (arith, length-replies_from (step h act) acts, length-replied h act)
+
+pub length-replies : (opening : PaperCells) (acts : List Act) → length (history opening acts).replies ≡ length acts
+length-replies opening acts = length-replies_from (begun opening) acts ∙ (let e : 0 + length acts ≡ length acts = omega arith in e)
+
+entries_from-snoc : (number : ℕ) (replies : List Reply) (reply : Reply)
+    → entries_from number (replies ++ reply ∷ []) ≡ entries_from number replies ++ record { shift = 0; painter = 0; number = number + length replies; reply = reply } ∷ []
+entries_from-snoc number [] reply = ap (λ (n : ℕ). record { shift = 0; painter = 0; number = n; reply = reply } ∷ []) (let e : number ≡ number + 0 = omega arith in e)
+entries_from-snoc number (r ∷ replies) reply =
+    ap (λ es. record { shift = 0; painter = 0; number = number; reply = r } ∷ es) (entries_from-snoc (number + 1) replies reply
+      ∙ ap (λ (n : ℕ). entries_from (number + 1) replies ++ record { shift = 0; painter = 0; number = n; reply = reply } ∷ []) (let e : number + 1 + length replies ≡ number + suc (length replies) = omega arith in e))
+
+-- the entries of one act more
+pub entries_more : (opening : PaperCells) (acts : List Act) (k : ℕ) (d : Act) (reply : Reply) (before now : List Entry) → k < length acts
+    → before ≡ entries_from 1 (history opening (take k acts)).replies
+    → (step (history opening (take k acts)) (get_or acts k d)).replies ≡ (history opening (take k acts)).replies ++ reply ∷ []
+    → now ≡ before ++ record { shift = 0; painter = 0; number = k + 1; reply = reply } ∷ []
+    → now ≡ entries_from 1 (history opening (take (k + 1) acts)).replies
+entries_more opening acts k d reply before now there are replied pushed =
+    let h : History = history opening (take k acts) in
+    let count : 1 + length h.replies ≡ k + 1 = omega (arith, length-replies opening (take k acts), length-take k acts) in
+    pushed ∙ ap (λ es. es ++ record { shift = 0; painter = 0; number = k + 1; reply = reply } ∷ []) are
+    ∙ ap (λ (n : ℕ). entries_from 1 h.replies ++ record { shift = 0; painter = 0; number = n; reply = reply } ∷ []) (sym count)
+    ∙ sym (entries_from-snoc 1 h.replies reply) ∙ ap (entries_from 1) (sym replied) ∙ ap (λ (m : History). entries_from 1 m.replies) (sym (history_more opening acts k d there))

@@ -1,13 +1,12 @@
 //! The run of a session in plain order, on one thread: all acts of the shift, and then the repeats of the loom with the newest version.
 ghost use Rattle.std.specs.Prelude.{◌≡◌, ◌<◌, ◌≤◌, ◌+◌, ◌++◌, ◌∷◌, [], length, IfOk, All};
-ghost use Rattle.point_paper.specs.Papers.{IsPaper};
 ghost use Rattle.draft_model.specs.Designs.{IsPaperOf};
-ghost use Rattle.studio_run.specs.Plans.{FitsSession, RunsAlone, IsActOf};
+ghost use Rattle.studio_run.specs.Plans.{FitsSession, RunsAlone, IsActOf, acts_of_painter};
 ghost use Rattle.studio_run.specs.Journals.{History, IsDesk, history, step};
 ghost use Rattle.studio_run.specs.Logs.{Legal, entries_from};
 
 use crate::loom_threads::weave_repeats;
-use crate::session_file::Session;
+use crate::session_file::{Session, ShiftPlan};
 use crate::strokes::Act;
 use crate::version_journal::{Entry, Reply, RunLog};
 use draft_model::design::Design;
@@ -28,10 +27,7 @@ pub fn run(alloc: Global, session: &Session) -> Result<RunLog, OutOfMemory>
         newest: session.opening.copy()?,
         version: 0,
     };
-    let entries = match plan.painters.as_slice().first() {
-        Some(acts) => do_acts(alloc, &session.design, &mut desk, acts.as_slice())?,
-        None => Listed::new(alloc),
-    };
+    let entries = do_acts(alloc, &session.design, &mut desk, first_acts(plan))?;
     let count = plan.repeats.as_slice()[0];
     let repeats = weave_repeats(alloc, session, &desk.newest, desk.version, 0, count)?;
     let mut looms = Listed::new(alloc);
@@ -45,6 +41,16 @@ struct Desk {
     paper: Paper,
     newest: Paper,
     version: u32,
+}
+
+// The acts of painter 0; without a painter there are none.
+fn first_acts(plan: &ShiftPlan) -> &[Act]
+    ensures { result.now ≡ acts_of_painter plan.now 0 }
+{
+    match plan.painters.as_slice().first() {
+        Some(acts) => acts.as_slice(),
+        None => &[],
+    }
 }
 
 // Does the acts of painter 0 in shift 0.
