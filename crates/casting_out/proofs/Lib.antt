@@ -1,0 +1,4 @@
+pub mod Builds
+pub mod Columns
+pub mod Lists
+pub mod Marks
