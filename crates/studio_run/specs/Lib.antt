@@ -1,4 +1,6 @@
+pub mod Commands
 pub mod Strokes
+pub mod Sessions
 pub mod Plans
 pub mod Journals
 pub mod Repeats

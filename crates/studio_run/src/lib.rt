@@ -1,6 +1,7 @@
 //! The studio as one call: from the words of the command line to the report.
 #![tactic(auto)]
 
+pub mod command;
 pub mod loom_threads;
 pub mod session_file;
 pub mod shift_run;

@@ -42,3 +42,15 @@ pub enum SessionFaultKind {
     /// They are one, but not of the form that is built.
     NotBuilt,
 }
+
+/// Why a session was not read.
+#[derive(Debug, Drop)]
+pub enum SessionRefusal {
+    /// The file breaks a rule.
+    Fault(SessionFault),
+    /// The file of this name could not be read.
+    ReadFault(NameText),
+    /// The file of this name has more than 67,108,864 bytes.
+    TooLong(NameText),
+    OutOfMemory,
+}

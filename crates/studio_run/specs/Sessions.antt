@@ -1,0 +1,212 @@
+-- The session that the bytes of a session file denote, or the first broken rule.
+use Rattle.std.specs.Prelude.{◌≡◌, ¬◌, ℕ, ℤ, pos, negsuc, ◌-◌, ◌%◌, ◌==◌, nat_le, nat_lt, Bool, true, false, ◌&&◌, list_any, bytes_eq, codes, List, [], ◌∷◌, length, map, replicate, Option, Some, None, IsSome, option_and_then, option_map, if◌then◌else◌, Result, Ok, Err, IsUtf8}
+use Rattle.toml.specs.Data.{Data, Items, no_items, item, Members, no_members, member, as_integer, as_str, as_array, as_table, get_member}
+use Rattle.toml.specs.Parse.{parse_document}
+use Rattle.mill_base.specs.Words.{words_of, number_of}
+use Rattle.mill_base.specs.declared.size.Size.{Size}
+use Rattle.mill_base.specs.declared.size.Face.TheVariants.{Up}
+use Rattle.weave_book.specs.declared.weaves.Weave.TheVariants.{Blank, Plain}
+use Rattle.point_paper.specs.Papers.{paper_by}
+use Rattle.harness_ties.specs.Ties.{tie_of}
+use Rattle.casting_out.specs.Castings.{casting_of}
+use Rattle.draft_model.specs.declared.design.Design.{Design}
+use Rattle.studio_run.specs.declared.strokes.Act.{Act}
+use Rattle.studio_run.specs.declared.strokes.Act.TheVariants.{Dot, Commit}
+use Rattle.studio_run.specs.declared.session_file.Session.{Session}
+use Rattle.studio_run.specs.declared.session_file.ShiftPlan.{ShiftPlan}
+use Rattle.studio_run.specs.declared.session_file.SessionFault.{SessionFault}
+use Rattle.studio_run.specs.declared.session_file.SessionFaultKind.{SessionFaultKind}
+use Rattle.studio_run.specs.declared.session_file.SessionFaultKind.TheVariants.{NotToml, NotBuilt}
+
+-- a value where a test holds
+abbrev pub guarded : {A : Type 0} → Bool → Option A → Option A
+guarded true o = o
+guarded false o = None
+
+-- the values where there are all of them
+abbrev pub all_some : {A : Type 0} → List (Option A) → Option (List A)
+all_some [] = Some []
+all_some (o ∷ os) = option_and_then (λ x. option_map (λ xs. x ∷ xs) (all_some os)) o
+
+-- ---- parts of a document
+
+-- the items of an array
+abbrev pub list_of : Items → List Data
+list_of no_items = []
+list_of (item d ds) = d ∷ list_of ds
+
+abbrev pub list_in : Data → Option (List Data)
+list_in d = option_map list_of (as_array d)
+
+abbrev pub list_at : List ℕ → Members → Option (List Data)
+list_at key ms = option_and_then list_in (get_member key ms)
+
+-- the one item of a list that has no other
+abbrev pub only_item : List Data → Option Data
+only_item [] = None
+only_item (d ∷ []) = Some d
+only_item (d ∷ e ∷ ds) = None
+
+-- every key of the table is among these
+abbrev pub has_only : List (List ℕ) → Members → Bool
+has_only keys no_members = true
+has_only keys (member key d ms) = list_any (λ k. bytes_eq k key) keys && has_only keys ms
+
+-- the table whose keys are among these
+abbrev pub table_of : List (List ℕ) → Data → Option Members
+table_of keys d = option_and_then (λ ms. guarded (has_only keys ms) (Some ms)) (as_table d)
+
+-- a whole number from the least to the greatest
+abbrev pub number_between : ℕ → ℕ → ℤ → Option ℕ
+number_between least greatest (pos n) = guarded (nat_le least n && nat_le n greatest) (Some n)
+number_between least greatest (negsuc n) = None
+
+abbrev pub number_in : ℕ → ℕ → Data → Option ℕ
+number_in least greatest d = option_and_then (number_between least greatest) (as_integer d)
+
+abbrev pub number_at : ℕ → ℕ → List ℕ → Members → Option ℕ
+number_at least greatest key ms = option_and_then (number_in least greatest) (get_member key ms)
+
+-- an even number from 2 to 64
+abbrev pub even_at : List ℕ → Members → Option ℕ
+even_at key ms = option_and_then (λ n. guarded (n % 2 == 0) (Some n)) (number_at 2 64 key ms)
+
+-- ---- the keys of the form
+
+-- `show` is `digest` or `rows`; where it is absent it is `digest`
+abbrev pub show_in : Data → Option Bool
+show_in d = option_and_then (λ word. if bytes_eq word (codes "rows") then Some true else guarded (bytes_eq word (codes "digest")) (Some false)) (as_str d)
+
+abbrev pub shown_of : Option Data → Option Bool
+shown_of None = Some false
+shown_of (Some d) = show_in d
+
+-- `weave = "plain"` alone
+abbrev pub is_plain : Members → Bool
+is_plain ms = option_map_or (λ word. bytes_eq word (codes "plain")) (option_and_then as_str (get_member (codes "weave") ms)) false
+
+abbrev pub is_plain_colour : Data → Bool
+is_plain_colour d = option_map_or is_plain (table_of (codes "weave" ∷ []) d) false
+
+-- `colour` is a list of 1 to 4 tables, each of plain weave: how many
+abbrev pub colours_of : List Data → Option ℕ
+colours_of ds = guarded (nat_le 1 (length ds) && nat_le (length ds) 4 && list_all is_plain_colour ds) (Some (length ds))
+
+-- the table `design`, with a colour of the book as its opening
+pub record DesignForm : Type 0 where
+  pub size : Size
+  pub weft : ℕ
+  pub warp : ℕ
+  pub opening : ℕ
+
+abbrev pub design_of : ℕ → Members → Option DesignForm
+design_of colours ms =
+    option_and_then (λ columns. option_and_then (λ picks. option_and_then (λ weft. option_and_then (λ warp. option_map (λ opening.
+        record { size = record { columns = columns; picks = picks }; weft = weft; warp = warp; opening = opening })
+        (number_at 0 (colours - 1) (codes "opening") ms))
+        (number_at 1 255 (codes "warp_limit") ms))
+        (number_at 1 255 (codes "weft_limit") ms))
+        (even_at (codes "picks") ms))
+        (even_at (codes "columns") ms)
+
+abbrev pub design_keys : List (List ℕ)
+design_keys = codes "columns" ∷ codes "picks" ∷ codes "weft_limit" ∷ codes "warp_limit" ∷ codes "opening" ∷ []
+
+-- a dot paints with a colour of the book a cell of the paper
+abbrev pub dot_of : ℕ → Size → ℕ → ℕ → ℕ → Option Act
+dot_of colours size colour column pick = guarded (nat_lt colour colours && nat_lt column size.columns && nat_lt pick size.picks) (Some (Dot colour column pick))
+
+-- an act by its words: `commit`, or `dot colour column pick`
+abbrev pub act_of_words : ℕ → Size → List (List ℕ) → Option Act
+act_of_words colours size (verb ∷ []) = guarded (bytes_eq verb (codes "commit")) (Some Commit)
+act_of_words colours size (verb ∷ colour ∷ column ∷ pick ∷ []) =
+    guarded (bytes_eq verb (codes "dot")) (option_and_then (λ k. option_and_then (λ c. option_and_then (dot_of colours size k c) (number_of pick)) (number_of column)) (number_of colour))
+act_of_words colours size words = None
+
+abbrev pub act_in : ℕ → Size → Data → Option Act
+act_in colours size d = option_and_then (λ text. act_of_words colours size (words_of text)) (as_str d)
+
+-- the acts of a painter: at most 64 texts
+abbrev pub acts_of : ℕ → Size → List Data → Option (List Act)
+acts_of colours size ds = guarded (nat_le (length ds) 64) (all_some (map (act_in colours size) ds))
+
+-- `acts` is a list of at most one list of texts, and absent it is empty
+abbrev pub painters_of_lists : ℕ → Size → List Data → Option (List (List Act))
+painters_of_lists colours size [] = Some []
+painters_of_lists colours size (d ∷ ds) = option_and_then (λ one. option_map (λ acts. acts ∷ []) (option_and_then (acts_of colours size) (list_in one))) (only_item (d ∷ ds))
+
+abbrev pub painters_of : ℕ → Size → Option Data → Option (List (List Act))
+painters_of colours size None = Some []
+painters_of colours size (Some d) = option_and_then (painters_of_lists colours size) (list_in d)
+
+-- the one table of `shift`, with the number of repeats of the one loom
+abbrev pub repeats_of : Members → Option ℕ
+repeats_of ms = option_and_then (number_in 0 16) (option_and_then only_item (list_at (codes "repeats") ms))
+
+abbrev pub shift_of : ℕ → Size → Members → Option ShiftPlan
+shift_of colours size ms =
+    option_and_then (λ repeats. option_map (λ painters. record { repeats = repeats ∷ []; painters = painters }) (painters_of colours size (get_member (codes "acts") ms))) (repeats_of ms)
+
+abbrev pub shift_keys : List (List ℕ)
+shift_keys = codes "repeats" ∷ codes "acts" ∷ []
+
+-- ---- the session
+
+-- the design of plain colours: straight tied, one hook for each column, without binders
+abbrev pub plain_design : ℕ → DesignForm → Design
+plain_design colours form = record {
+  size = form.size;
+  book = replicate colours Plain;
+  tie = record { columns = form.size.columns; ends = tie_of [] form.size.columns };
+  casting = casting_of form.size.columns [] form.size.columns;
+  raise = Blank;
+  sink = Blank;
+  weft_face = form.weft;
+  weft_back = form.weft;
+  warp_face = form.warp;
+  warp_back = form.warp;
+  tile = 32;
+}
+
+abbrev pub plain_session : Bool → ℕ → DesignForm → ShiftPlan → Session
+plain_session shown colours form plan = record {
+  design = plain_design colours form;
+  opening = paper_by form.size.columns form.size.picks (λ column pick. form.opening);
+  looms = 1;
+  show_rows = shown;
+  faces = Up ∷ [];
+  shifts = plan ∷ [];
+}
+
+abbrev pub session_keys : List (List ℕ)
+session_keys = codes "format" ∷ codes "show" ∷ codes "design" ∷ codes "colour" ∷ codes "shift" ∷ []
+
+-- the session of a document of the form that is built
+abbrev pub session_of_parts : Bool → ℕ → Members → Data → Option Session
+session_of_parts shown colours design shift =
+    option_and_then (λ form. option_and_then (λ ms. option_map (plain_session shown colours form) (shift_of colours form.size ms)) (table_of shift_keys shift)) (design_of colours design)
+
+unfoldable pub session_of : Members → Option Session
+session_of ms =
+    guarded (has_only session_keys ms) (option_and_then (λ format. option_and_then (λ shown. option_and_then (λ colours. option_and_then (λ design. option_and_then
+        (session_of_parts shown colours design)
+        (option_and_then only_item (list_at (codes "shift") ms)))
+        (option_and_then (table_of design_keys) (get_member (codes "design") ms)))
+        (option_and_then colours_of (list_at (codes "colour") ms)))
+        (shown_of (get_member (codes "show") ms)))
+        (number_at 1 1 (codes "format") ms))
+
+-- the bytes are a TOML document with these members
+record IsDocument (bytes : List ℕ) (ms : Members) : Type 0 where
+  text : IsUtf8 bytes
+  parsed : parse_document bytes ≡ Some ms
+
+-- `SessionOf bytes result`: the bytes denote the session, or break the rule. A document is either of the form that is built or it is
+-- not; of a fault the path is empty.
+abbrev pub BreaksRule : List ℕ → SessionFaultKind → Type 0
+BreaksRule bytes NotToml = (ms : Members) → ¬ IsDocument bytes ms
+BreaksRule bytes NotBuilt = (ms : Members) × IsDocument bytes ms × (session_of ms ≡ None)
+
+abbrev pub SessionOf : List ℕ → Result Session SessionFault → Type 0
+SessionOf bytes (Ok session) = (ms : Members) × IsDocument bytes ms × (session_of ms ≡ Some session)
+SessionOf bytes (Err fault) = (fault.path ≡ []) × BreaksRule bytes fault.kind
