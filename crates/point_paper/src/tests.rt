@@ -10,6 +10,7 @@ use mill_base::size::Size;
 use mill_base::steps::Steps;
 use std::alloc::Global;
 use std::marker::Brand;
+use std::process::Abort;
 use std::sync::ledger::{Blank, Ledger};
 use std::test::Fail;
 
@@ -77,6 +78,16 @@ fn columns(alloc: Global, paper: &Paper) -> Result<Vec<u8>, OutOfMemory> {
     Ok(cells)
 }
 
+fn expect_cells(
+    rt: &impl Abort,
+    found: Result<Vec<u8>, OutOfMemory>,
+    wanted: &[u8],
+    what: &str,
+) -> Result<(), OutOfMemory> {
+    assert_eq!(rt; found?.as_slice(), wanted, "{what}");
+    Ok(())
+}
+
 fn count(cells: &[u8], colour: u8) -> usize {
     cells.iter().filter(|cell| **cell == colour).count()
 }
@@ -96,15 +107,8 @@ fn marks(alloc: Global, bits: &BitPaper) -> Result<Vec<u8>, OutOfMemory> {
 fn the_top_image_row_is_the_highest_pick(rt: HostRuntime) -> Result<(), Fail> {
     let alloc = rt.alloc();
     let paper = Paper::from_rows(alloc, size_of(3, 2), &[1, 2, 0, 0, 1, 2])?;
-    assert_eq!(rt; paper.size(), size_of(3, 2));
-    assert_eq!(rt;
-        picks(alloc, &paper)?.as_slice(),
-        [0, 1, 2, 1, 2, 0].as_slice()
-    );
-    assert_eq!(rt;
-        columns(alloc, &paper)?.as_slice(),
-        [0, 1, 1, 2, 2, 0].as_slice()
-    );
+    expect_cells(&rt, picks(alloc, &paper), &[0, 1, 2, 1, 2, 0], "picks")?;
+    expect_cells(&rt, columns(alloc, &paper), &[0, 1, 1, 2, 2, 0], "columns")?;
     Ok(())
 }
 
@@ -112,6 +116,7 @@ fn the_top_image_row_is_the_highest_pick(rt: HostRuntime) -> Result<(), Fail> {
 fn a_span_paints_its_cells_alone(rt: HostRuntime) -> Result<(), Fail> {
     let alloc = rt.alloc();
     let mut paper = Paper::blank(alloc, size_of(4, 3), 9)?;
+    let copy = paper.copy()?;
     let painted = [
         (
             "at the right edge",
@@ -137,12 +142,9 @@ fn a_span_paints_its_cells_alone(rt: HostRuntime) -> Result<(), Fail> {
     for (what, span, cells) in painted {
         assert!(rt; span.pick < 3 && span.column <= 4 && span.length <= 4 - span.column);
         paper.paint_span(&span);
-        assert_eq!(rt;
-            picks(alloc, &paper)?.as_slice(),
-            cells.as_slice(),
-            "{what}"
-        );
+        expect_cells(&rt, picks(alloc, &paper), &cells, what)?;
     }
+    expect_cells(&rt, picks(alloc, &copy), &[9; 12], "a copy stays")?;
     Ok(())
 }
 
@@ -153,21 +155,12 @@ fn a_column_is_read_back_after_spans_on_every_pick(rt: HostRuntime) -> Result<()
     for pick in 0..4 {
         paper.paint_span(&span(1, pick, 2, pick as u8));
     }
-    assert_eq!(rt;
-        columns(alloc, &paper)?.as_slice(),
-        [9, 9, 9, 9, 0, 1, 2, 3, 0, 1, 2, 3].as_slice()
-    );
-    Ok(())
-}
-
-#[test]
-fn a_copy_is_apart_from_its_paper(rt: HostRuntime) -> Result<(), Fail> {
-    let alloc = rt.alloc();
-    let mut paper = Paper::blank(alloc, size_of(2, 2), 9)?;
-    let copy = paper.copy()?;
-    paper.paint_span(&span(0, 1, 2, 5));
-    assert_eq!(rt; picks(alloc, &paper)?.as_slice(), [9, 9, 5, 5].as_slice());
-    assert_eq!(rt; picks(alloc, &copy)?.as_slice(), [9, 9, 9, 9].as_slice());
+    expect_cells(
+        &rt,
+        columns(alloc, &paper),
+        &[9, 9, 9, 9, 0, 1, 2, 3, 0, 1, 2, 3],
+        "columns",
+    )?;
     Ok(())
 }
 
@@ -196,30 +189,31 @@ fn counted_readings<L: Ledger>(paper: &Paper, blank: Blank) -> [u8; 7]
 #[test]
 fn mixed_readings_tick_once_for_each_cell(rt: HostRuntime) -> Result<(), Fail> {
     let paper = Paper::from_rows(rt.alloc(), size_of(3, 2), &[1, 2, 0, 0, 1, 2])?;
-    assert_eq!(rt;
-        counted_readings::<Brand>(&paper, Blank::new(1)),
-        [0, 1, 2, 0, 2, 0, 2]
-    );
+    let cells = counted_readings::<Brand>(&paper, Blank::new(1));
+    assert!(rt; cells == [0, 1, 2, 0, 2, 0, 2]);
     Ok(())
 }
 
-#[test]
-fn the_largest_paper_is_made_painted_and_read(rt: HostRuntime) -> Result<(), Fail> {
-    let alloc = rt.alloc();
+/// How many cells of the largest paper's top pick and right column have the colours 1, 2 and 3.
+fn largest(alloc: Global) -> Result<[usize; 5], OutOfMemory> {
     let mut paper = Paper::blank(alloc, size_of(4096, 8192), 1)?;
     paper.paint_span(&span(4095, 8191, 1, 2));
     paper.paint_span(&span(0, 4096, 4096, 3));
     let top = line(alloc, &paper, LineKind::Pick, 8191)?;
     let right = line(alloc, &paper, LineKind::Column, 4095)?;
-    assert_eq!(rt; (count(&top, 1), count(&top, 2)), (4095, 1));
-    assert_eq!(rt;
-        (count(&right, 1), count(&right, 2), count(&right, 3)),
-        (8190, 1, 1)
-    );
-    assert_eq!(rt;
-        (top.last(), right.last(), right.get(4096)),
-        (Some(&2), Some(&2), Some(&3))
-    );
+    Ok([
+        count(&top, 1),
+        count(&top, 2),
+        count(&right, 1),
+        count(&right, 2),
+        count(&right, 3),
+    ])
+}
+
+#[test]
+fn the_largest_paper_is_made_painted_and_read(rt: HostRuntime) -> Result<(), Fail> {
+    let counts = largest(rt.alloc())?;
+    assert!(rt; counts == [4095, 1, 8190, 1, 1]);
     Ok(())
 }
 
@@ -229,47 +223,17 @@ fn a_bit_paper_is_set_by_cells_and_by_rows(rt: HostRuntime) -> Result<(), Fail> 
     let mut bits = BitPaper::new(alloc, size_of(3, 2))?;
     let mut row = BitRow::new(alloc, 3)?;
     row.set(1, true);
-    assert_eq!(rt; bits.size(), size_of(3, 2));
     bits.set(2, 0, true);
-    assert_eq!(rt;
-        marks(alloc, &bits)?.as_slice(),
-        [0, 0, 1, 0, 0, 0].as_slice()
-    );
-    bits.set_row(1, &row);
-    assert_eq!(rt;
-        marks(alloc, &bits)?.as_slice(),
-        [0, 0, 1, 0, 1, 0].as_slice()
-    );
-    assert_eq!(rt;
-        (bits.get(2, 0), bits.get(1, 0), bits.row(1).get(1)),
-        (true, false, true)
-    );
-    Ok(())
-}
-
-#[test]
-fn a_copy_is_apart_from_its_bit_paper(rt: HostRuntime) -> Result<(), Fail> {
-    let alloc = rt.alloc();
-    let mut bits = BitPaper::new(alloc, size_of(2, 2))?;
-    bits.set(1, 1, true);
     let copy = bits.copy()?;
-    bits.set(1, 1, false);
-    assert_eq!(rt; marks(alloc, &bits)?.as_slice(), [0, 0, 0, 0].as_slice());
-    assert_eq!(rt; marks(alloc, &copy)?.as_slice(), [0, 0, 0, 1].as_slice());
-    Ok(())
-}
-
-#[test]
-fn the_largest_bit_paper_is_made_and_set(rt: HostRuntime) -> Result<(), Fail> {
-    let mut bits = BitPaper::new(rt.alloc(), size_of(4096, 8192))?;
-    bits.set(4095, 8191, true);
-    assert_eq!(rt;
-        (
-            bits.get(4095, 8191),
-            bits.get(4094, 8191),
-            bits.get(4095, 8190)
-        ),
-        (true, false, false)
-    );
+    bits.set_row(1, &row);
+    expect_cells(&rt, marks(alloc, &bits), &[0, 0, 1, 0, 1, 0], "set")?;
+    expect_cells(
+        &rt,
+        marks(alloc, &copy),
+        &[0, 0, 1, 0, 0, 0],
+        "a copy stays",
+    )?;
+    assert!(rt; bits.size() == size_of(3, 2));
+    assert!(rt; bits.get(2, 0) && !bits.get(1, 0) && bits.row(1).get(1));
     Ok(())
 }
