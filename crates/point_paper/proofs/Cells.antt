@@ -5,7 +5,6 @@ use Rattle.std.proofs.lemmas.Bool.{cases_lt}
 use Rattle.std.proofs.lemmas.List.{ext_get_or, get_or_append_left, get_or-append-add, get_or-take, get_or-drop, get_or-replicate, length-replicate, take-append-drop}
 use Rattle.std.proofs.lemmas.List.Edits.{length-between, get_or-between}
 use Rattle.std.proofs.lemmas.List.FromFn.{length-map-range_with_len, get_or-map-range_with_len}
-use Rattle.std.specs.List.{range_with_len}
 use Rattle.point_paper.specs.Papers.{PaperCells, IsPaper, cell_of, pick_of, column_of, line_by, colours_by, paper_by, image_cell}
 
 pub length-line_by : {A : Type 0} (n : ℕ) (cell : ℕ → A) → length (line_by n cell) ≡ n

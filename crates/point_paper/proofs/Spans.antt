@@ -1,12 +1,12 @@
 -- What painting a span changes.
-use Rattle.std.proofs.Common.{◌≡◌, ◌≢◌, ◌+◌, ◌-◌, ◌*◌, ◌<◌, ◌≤◌, ℕ, suc, Bool, true, false, cond, List, ◌++◌, length, get_or, take, drop, replicate, sym, ap, ◌∙◌, subst, refl, arith, ◌⊎◌, inl, inr, ⊎_elim, length-append, length-take, length-drop, eq-eqb}
+use Rattle.std.proofs.Common.{◌≡◌, ◌≢◌, ◌+◌, ◌-◌, ◌*◌, ◌<◌, ◌≤◌, ℕ, suc, List, ◌++◌, length, get_or, take, drop, replicate, sym, ap, ◌∙◌, subst, arith, ◌⊎◌, ⊎_elim, length-append, length-take, length-drop}
 use Rattle.std.proofs.Math.Nat.{suc-mul, mul-le-mul_right}
 use Rattle.std.proofs.lemmas.Bool.{cases_lt, cases_order, cond-true, cond-false}
 use Rattle.std.proofs.lemmas.Bool.Decides.{nat_tests}
 use Rattle.std.proofs.lemmas.List.{get_or_append_left, get_or-append_right, get_or-take, get_or-drop, get_or-replicate, length-replicate}
 use Rattle.point_paper.specs.declared.paper.Span.{Span}
 use Rattle.point_paper.specs.Papers.{PaperCells, IsPaper, cell_of, covers, after_span, paper_by}
-use Rattle.point_paper.proofs.Cells.{paper_is, place_below}
+use Rattle.point_paper.proofs.Cells.{paper_is}
 
 pub after_span-inside : (paper : PaperCells) (span : Span) (column pick : ℕ) → pick ≡ span.pick → span.column ≤ column → column < span.column + span.length → after_span paper span column pick ≡ span.colour
 after_span-inside paper span column pick same from to = cond-true (covers span column pick) span.colour (cell_of paper column pick) (grind (arith, nat_tests))

@@ -1,5 +1,4 @@
 use Rattle.std.proofs.Common.{ap, ◌∙◌, List, ℕ}
-use Rattle.point_paper.specs.Papers.{PaperCells}
 use Rattle.point_paper.proofs.Cells.{colours_of_one}
 use Rattle.point_paper.proofs.paper.Paper.blank.Goals as goal
 

@@ -1,4 +1,4 @@
-use Rattle.std.proofs.Common.{◌≡◌, ◌+◌, ◌-◌, ◌*◌, ◌++◌, ap, sym, ◌∙◌, refl, length, arith, slice_range}
+use Rattle.std.proofs.Common.{◌≡◌, ◌+◌, ◌*◌, ◌++◌, ap, sym, ◌∙◌, refl, length, arith}
 use Rattle.std.proofs.lemmas.Slice.{pushed}
 use Rattle.point_paper.specs.Papers.{colours_by, image_cell}
 use Rattle.point_paper.proofs.Cells.{image_row, colours_more, length-colours_by}

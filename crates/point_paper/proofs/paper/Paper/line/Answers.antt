@@ -1,5 +1,4 @@
-use Rattle.std.proofs.Common.{◌≡◌, ◌+◌, ◌*◌, ◌<◌, ℕ, List, get_or, length, ap, sym, ◌∙◌, arith}
-use Rattle.point_paper.specs.Papers.{line_of, lines_of, line_cells}
+use Rattle.std.proofs.Common.{◌+◌, ◌*◌, ℕ, List, get_or, length, ap, ◌∙◌, arith}
 use Rattle.point_paper.proofs.Cells.{pick_read, column_read}
 use Rattle.point_paper.proofs.paper.Paper.line.Goals as goal
 
