@@ -1,5 +1,5 @@
 -- The rule of a bound cell on the words of rows.
-use Rattle.std.proofs.Common.{◌≡◌, ℕ, List, Bool, ap, ◌∙◌}
+use Rattle.std.proofs.Common.{◌≡◌, ℕ, List, Bool}
 use Rattle.mill_base.specs.Bits.{bit_of, HoldsRow}
 use Rattle.mill_base.proofs.Rows.{bit_is_cell}
 use Rattle.binder_marks.specs.Bound.{bound_cell, bound_at}

@@ -1,5 +1,5 @@
 -- A bound line: floats that are too long are broken by the marks of two weaves, the binders.
-use Rattle.std.specs.Prelude.{ℕ, ◌+◌, Bool, true, false, not, List, length, map, slice_index_or, if◌then◌else◌}
+use Rattle.std.specs.Prelude.{ℕ, Bool, false, not, List, length, map, slice_index_or, if◌then◌else◌}
 use Rattle.std.specs.List.{range_with_len}
 
 -- the cell at a place: where no float is too long the raw cell; where one is, an unlifted cell becomes the mark of the

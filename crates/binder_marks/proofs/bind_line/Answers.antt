@@ -1,4 +1,4 @@
-use Rattle.std.proofs.Common.{◌≡◌, ◌≢◌, ◌+◌, ◌/◌, ◌<◌, ℕ, false, length, ◌∙◌, ⊎_elim, sym, subst, arith}
+use Rattle.std.proofs.Common.{◌≡◌, ◌≢◌, ◌/◌, ◌<◌, ℕ, false, length, ◌∙◌, ⊎_elim, sym, subst, arith}
 use Rattle.std.proofs.lemmas.List.FromFn.{fill_by_all}
 use Rattle.mill_base.proofs.Rows.{same_or_not}
 use Rattle.binder_marks.specs.Bound.{bound_at, bound_line}

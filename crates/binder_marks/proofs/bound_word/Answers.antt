@@ -1,4 +1,4 @@
-use Rattle.std.proofs.Common.{◌≡◌, ◌-◌, ◌==◌, w64, ap, ◌∙◌, min, max, bit_and, arith}
+use Rattle.std.proofs.Common.{◌-◌, ◌==◌, w64, ap, ◌∙◌, min, max, bit_and, arith}
 use Rattle.std.specs.Int.{bit_at, bit_not}
 use Rattle.std.proofs.lemmas.Nat.{and_le_l}
 use Rattle.std.proofs.lemmas.Nat.Bits.{bit_at-lt, bit_at_and, bit_at_or, bit_at_not}
