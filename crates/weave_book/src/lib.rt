@@ -7,4 +7,6 @@ pub mod fault;
 pub mod rows;
 pub mod satins;
 pub mod spelling;
+#[cfg(test)]
+mod tests;
 pub mod weaves;
