@@ -1,0 +1,7 @@
+pub mod Belows
+pub mod Rounds
+pub mod Lengths
+pub mod Places
+pub mod Long
+pub mod Listed
+pub mod Law
