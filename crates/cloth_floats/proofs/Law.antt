@@ -11,7 +11,7 @@ use Rattle.cloth_floats.specs.declared.Run.{Run}
 use Rattle.cloth_floats.specs.Floats.{starts_at, length_at, is_even, float_at, endless_float, runs_of, is_over, runs_through}
 use Rattle.cloth_floats.specs.Windows.{is_long_over, is_long}
 use Rattle.cloth_floats.proofs.Belows.{IsFirst, first_cases}
-use Rattle.cloth_floats.proofs.Rounds.{turns, past_is}
+use Rattle.cloth_floats.proofs.Rounds.{turns, past_is, past_back}
 use Rattle.cloth_floats.proofs.Lengths.{length_is, longer, starts_turns, no_starts, ends_within, even_where_none}
 use Rattle.cloth_floats.proofs.Places.{cell_from}
 use Rattle.cloth_floats.proofs.Long.{IsPast, cell_past, long_by_length, long_on_even}
@@ -44,9 +44,9 @@ starts_past : (line : List Bool) (k x past i : ℕ) → 0 < length line → k < 
 starts_past line k x past i some hk (inl e) h = starts_turns line (x + i) (k + length line - (past - i)) 1 0 some (omega arith)
 starts_past line k x past i some hk (inr e) h = ap (starts_at line) (omega arith)
 
-past_back : (n k x past : ℕ) → past < n → (past + x ≡ k) ⊎ (past + x ≡ k + n) → (k + n - x) % n ≡ past
-past_back n k x past h (inl e) = turns n (k + n - x) past 0 1 (omega arith) ∙ mod-eq_of_lt h
-past_back n k x past h (inr e) = ap (λ y. y % n) (let is : k + n - x ≡ past = omega arith in is) ∙ mod-eq_of_lt h
+starts_there : (line : List Bool) (k x past : ℕ) → 0 < length line → k < length line → IsPast line x k past → starts_at line x ≡ starts_at line (k + length line - past)
+starts_there line k x past some hk (inl e) = starts_turns line x (k + length line - past) 1 0 some (omega arith)
+starts_there line k x past some hk (inr e) = ap (starts_at line) (omega arith)
 
 -- the float of the nearest start at k or before it runs through k
 nearest : (line : List Bool) (k x past : ℕ) → k < length line → x < length line → IsPast line x k past → IsFirst (λ e. starts_at line (k + length line - e)) (length line) past → IsThrough line k x
@@ -57,7 +57,7 @@ nearest line k x past hk hx at first =
         (λ i more most. starts_past line k x past i some hk at most ∙ first.before (past - i) (omega arith))) in
     record {
       within = hx;
-      starts = ap (starts_at line) (let e : x ≡ x + 0 = omega arith in e) ∙ starts_past line k x past 0 some hk at (omega arith) ∙ first.passes;
+      starts = starts_there line k x past some hk at ∙ first.passes;
       through = lt-ltb ((k + length line - x) % length line) (length_at line x) (subst (λ m. m < length_at line x) (sym (past_back (length line) k x past h at)) many);
     }
 
@@ -78,8 +78,7 @@ through_each line k hk uneven = ⊎_elim
         absurd (both_ways (is_even line) uneven (even_where_none line (λ x h.
           let some : 0 < length line = omega arith in
           let past = (k + length line - x) % length line in
-          ap (starts_at line) (let e : x ≡ x + 0 = omega arith in e) ∙ starts_past line k x past 0 some hk (past_is (length line) k x hk h) (omega arith)
-          ∙ none past (mod_below (k + length line - x) (length line) some)))))
+          starts_there line k x past some hk (past_is (length line) k x hk h) ∙ none past (mod_below (k + length line - x) (length line) some)))))
     (first_cases (λ e. starts_at line (k + length line - e)) (length line))
 
 -- the law of one line

@@ -5,3 +5,4 @@ pub mod Places
 pub mod Long
 pub mod Listed
 pub mod Law
+pub mod Sweeps

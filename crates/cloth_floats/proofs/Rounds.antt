@@ -29,6 +29,11 @@ past_is n k x hk hx = ⊎_elim
         inl (omega arith))
     (cases_lt k x)
 
+-- and back
+pub past_back : (n k x past : ℕ) → past < n → (past + x ≡ k) ⊎ (past + x ≡ k + n) → (k + n - x) % n ≡ past
+past_back n k x past h (inl e) = turns n (k + n - x) past 0 1 (omega arith) ∙ mod-eq_of_lt h
+past_back n k x past h (inr e) = ap (λ y. y % n) (let is : k + n - x ≡ past = omega arith in is) ∙ mod-eq_of_lt h
+
 rem_remainder : (z : ℤ) (n : ℕ) → int_rem_euclid z (pos n) ≡ pos (remainder z n)
 rem_remainder (pos x) n = refl
 rem_remainder (negsuc x) n = refl
