@@ -35,7 +35,9 @@ pub fn endless_float(line: &BitRow) -> Run
 /// The float that starts at a position.
 pub fn float_at(line: &BitRow, start: u32) -> Run
     requires { start < length line.now }
-    ensures { result ≡ float_at line.now start }
+    ensures float { result ≡ float_at line.now start }
+    ensures some { 0 < result.length }
+    ensures within { result.length ≤ length line.now }
 {
     Run {
         start,
