@@ -20,7 +20,7 @@ loop-start-preserved c =
     let starts = c.loop-start.invariant.starts (omega arith) in
     record {
       starts = λ h. start_next line c.loop-start.start c.float_at-run.result (omega arith) starts c.float_at-run.ensures.float;
-      listed = listed_more line _ _ _ c.loop-start.start c.float_at-run.result (omega arith) starts c.float_at-run.ensures.float ? c.loop-start.invariant.listed;
+      listed = listed_more line _ _ _ c.loop-start.start c.float_at-run.result (omega arith) starts c.float_at-run.ensures.float c.in_ok-push-2.ensures.items c.loop-start.invariant.listed;
     }
 
 pub returns : goal.returns
