@@ -54,7 +54,7 @@ nearest line k x past hk hx at first =
     let some : 0 < length line = omega arith in
     let h : past < length line = first.within in
     let many : past < length_at line x = longer line x past h (no_starts line x past some
-        (λ i more most. starts_past line k x past i some hk at most ∙ first.before (past - i) (omega arith))) in
+    (λ i more most. starts_past line k x past i some hk at most ∙ first.before (past - i) (omega arith))) in
     record {
       within = hx;
       starts = starts_there line k x past some hk at ∙ first.passes;
@@ -66,19 +66,19 @@ folded : (line : List Bool) (k past : ℕ) → k < length line → IsFirst (λ e
 folded line k past hk first =
     let h : past < length line = first.within in
     ⊎_elim
-      (λ (before : k < past). (k + length line - past, nearest line k (k + length line - past) past hk (omega arith) (inr (omega arith)) first))
-      (λ (on : past ≤ k). (k - past, nearest line k (k - past) past hk (omega arith) (inl (omega arith)) first))
-      (cases_lt k past)
+    (λ (before : k < past). (k + length line - past, nearest line k (k + length line - past) past hk (omega arith) (inr (omega arith)) first))
+    (λ (on : past ≤ k). (k - past, nearest line k (k - past) past hk (omega arith) (inl (omega arith)) first))
+    (cases_lt k past)
 
 pub through_each : (line : List Bool) (k : ℕ) → k < length line → is_even line ≡ false → (x : ℕ) × IsThrough line k x
 through_each line k hk uneven = ⊎_elim
     (λ (found : (i : ℕ) × IsFirst (λ e. starts_at line (k + length line - e)) (length line) i).
-        folded line k found.0 hk found.1)
+    folded line k found.0 hk found.1)
     (λ (none : (j : ℕ) → j < length line → starts_at line (k + length line - j) ≡ false).
-        absurd (both_ways (is_even line) uneven (even_where_none line (λ x h.
-          let some : 0 < length line = omega arith in
-          let past = (k + length line - x) % length line in
-          starts_there line k x past some hk (past_is (length line) k x hk h) ∙ none past (mod_below (k + length line - x) (length line) some)))))
+    absurd (both_ways (is_even line) uneven (even_where_none line (λ x h.
+    let some : 0 < length line = omega arith in
+    let past = (k + length line - x) % length line in
+    starts_there line k x past some hk (past_is (length line) k x hk h) ∙ none past (mod_below (k + length line - x) (length line) some)))))
     (first_cases (λ e. starts_at line (k + length line - e)) (length line))
 
 -- the law of one line
@@ -86,30 +86,30 @@ pub one_line : (line : List Bool) (lifted unlifted k : ℕ) → k < length line
     → is_long line lifted unlifted k ≡ list_any (λ run. is_over lifted unlifted run && runs_through line run k) (runs_of line)
 one_line line lifted unlifted k hk = ⊎_elim
     (λ (even : is_even line ≡ true).
-        let some : 0 < length line = omega arith in
-        let turn : (k + length line - 0) % length line ≡ k = whole_turn (length line) k hk in
-        long_if_even line lifted unlifted k some even
-        ∙ sym (ap (list_any (λ run. is_over lifted unlifted run && runs_through line run k)) (runs_even line even)
-          ∙ or_left (runs_through line (endless_float line) k) false (lt-ltb ((k + length line - 0) % length line) (length line) (omega arith))))
+    let some : 0 < length line = omega arith in
+    let turn : (k + length line - 0) % length line ≡ k = whole_turn (length line) k hk in
+    long_if_even line lifted unlifted k some even
+    ∙ sym (ap (list_any (λ run. is_over lifted unlifted run && runs_through line run k)) (runs_even line even)
+    ∙ or_left (runs_through line (endless_float line) k) false (lt-ltb ((k + length line - 0) % length line) (length line) (omega arith))))
     (λ (uneven : is_even line ≡ false).
-        let some = through_each line k hk uneven in
-        let at = some.1 in
-        let here : is_long line lifted unlifted k ≡ is_over lifted unlifted (float_at line some.0) = long_in_float line lifted unlifted some.0 k at.within at.starts hk at.through in
-        ⊎_elim
-          (λ (long : is_long line lifted unlifted k ≡ true).
-              long ∙ sym (ap (list_any (λ run. is_over lifted unlifted run && runs_through line run k)) (runs_uneven line uneven)
-              ∙ any_float (λ run. is_over lifted unlifted run && runs_through line run k) line 0 (length line) some.0 (omega arith) (let h = at.within in omega arith) at.starts
-                (and_from (is_over lifted unlifted (float_at line some.0)) (runs_through line (float_at line some.0) k) (sym here ∙ long) at.through)))
-          (λ (short : is_long line lifted unlifted k ≡ false).
-              short ∙ sym (ap (list_any (λ run. is_over lifted unlifted run && runs_through line run k)) (runs_uneven line uneven)
-              ∙ no_float (λ run. is_over lifted unlifted run && runs_through line run k) line 0 (length line)
-                (λ y low high starts. ⊎_elim
-                  (λ (through : runs_through line (float_at line y) k ≡ true).
-                      and_left (is_over lifted unlifted (float_at line y)) (runs_through line (float_at line y) k)
-                        (sym (long_in_float line lifted unlifted y k (omega arith) starts hk through) ∙ short))
-                  (λ (off : runs_through line (float_at line y) k ≡ false). and_right (is_over lifted unlifted (float_at line y)) (runs_through line (float_at line y) k) off)
-                  (cases_Bool (runs_through line (float_at line y) k)))))
-          (cases_Bool (is_long line lifted unlifted k)))
+    let some = through_each line k hk uneven in
+    let at = some.1 in
+    let here : is_long line lifted unlifted k ≡ is_over lifted unlifted (float_at line some.0) = long_in_float line lifted unlifted some.0 k at.within at.starts hk at.through in
+    ⊎_elim
+    (λ (long : is_long line lifted unlifted k ≡ true).
+    long ∙ sym (ap (list_any (λ run. is_over lifted unlifted run && runs_through line run k)) (runs_uneven line uneven)
+    ∙ any_float (λ run. is_over lifted unlifted run && runs_through line run k) line 0 (length line) some.0 (omega arith) (let h = at.within in omega arith) at.starts
+    (and_from (is_over lifted unlifted (float_at line some.0)) (runs_through line (float_at line some.0) k) (sym here ∙ long) at.through)))
+    (λ (short : is_long line lifted unlifted k ≡ false).
+    short ∙ sym (ap (list_any (λ run. is_over lifted unlifted run && runs_through line run k)) (runs_uneven line uneven)
+    ∙ no_float (λ run. is_over lifted unlifted run && runs_through line run k) line 0 (length line)
+    (λ y low high starts. ⊎_elim
+    (λ (through : runs_through line (float_at line y) k ≡ true).
+    and_left (is_over lifted unlifted (float_at line y)) (runs_through line (float_at line y) k)
+    (sym (long_in_float line lifted unlifted y k (omega arith) starts hk through) ∙ short))
+    (λ (off : runs_through line (float_at line y) k ≡ false). and_right (is_over lifted unlifted (float_at line y)) (runs_through line (float_at line y) k) off)
+    (cases_Bool (runs_through line (float_at line y) k)))))
+    (cases_Bool (is_long line lifted unlifted k)))
     (cases_Bool (is_even line)) where
-  whole_turn : (n k : ℕ) → k < n → (k + n - 0) % n ≡ k
-  whole_turn n k h = turns n (k + n - 0) k 0 1 (omega arith) ∙ mod-eq_of_lt h
+      whole_turn : (n k : ℕ) → k < n → (k + n - 0) % n ≡ k
+      whole_turn n k h = turns n (k + n - 0) k 0 1 (omega arith) ∙ mod-eq_of_lt h

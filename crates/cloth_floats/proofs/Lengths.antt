@@ -20,23 +20,23 @@ pub length_is : (line : List Bool) (x : ℕ) → IsLength line x (length_at line
 unfolding length_at
 length_is line x = ⊎_elim
     (λ (found : (i : ℕ) × IsFirst (λ j. not (same (cell_round line x) (cell_round line (x + j)))) (length line) i).
-        let i = found.0 in
-        let first = found.1 in
-        let e : first_below (λ j. not (same (cell_round line x) (cell_round line (x + j)))) (length line) ≡ i =
-            first_is (λ j. not (same (cell_round line x) (cell_round line (x + j)))) (length line) i first.within first.passes first.before in
-        subst (λ m. IsLength line x m) (sym e) (record {
-          within = let h = first.within in omega arith;
-          inside = λ j h. sym (same_is (cell_round line x) (cell_round line (x + j)) (not-false (same (cell_round line x) (cell_round line (x + j))) (first.before j h)));
-          ends = λ h. not-true (same (cell_round line x) (cell_round line (x + i))) first.passes;
-        }))
+    let i = found.0 in
+    let first = found.1 in
+    let e : first_below (λ j. not (same (cell_round line x) (cell_round line (x + j)))) (length line) ≡ i =
+    first_is (λ j. not (same (cell_round line x) (cell_round line (x + j)))) (length line) i first.within first.passes first.before in
+    subst (λ m. IsLength line x m) (sym e) (record {
+      within = let h = first.within in omega arith;
+      inside = λ j h. sym (same_is (cell_round line x) (cell_round line (x + j)) (not-false (same (cell_round line x) (cell_round line (x + j))) (first.before j h)));
+      ends = λ h. not-true (same (cell_round line x) (cell_round line (x + i))) first.passes;
+    }))
     (λ (none : (j : ℕ) → j < length line → not (same (cell_round line x) (cell_round line (x + j))) ≡ false).
-        let e : first_below (λ j. not (same (cell_round line x) (cell_round line (x + j)))) (length line) ≡ length line =
-            first_none (λ j. not (same (cell_round line x) (cell_round line (x + j)))) (length line) none in
-        subst (λ m. IsLength line x m) (sym e) (record {
-          within = omega arith;
-          inside = λ j h. sym (same_is (cell_round line x) (cell_round line (x + j)) (not-false (same (cell_round line x) (cell_round line (x + j))) (none j h)));
-          ends = λ h. absurd (omega arith);
-        }))
+    let e : first_below (λ j. not (same (cell_round line x) (cell_round line (x + j)))) (length line) ≡ length line =
+    first_none (λ j. not (same (cell_round line x) (cell_round line (x + j)))) (length line) none in
+    subst (λ m. IsLength line x m) (sym e) (record {
+      within = omega arith;
+      inside = λ j h. sym (same_is (cell_round line x) (cell_round line (x + j)) (not-false (same (cell_round line x) (cell_round line (x + j))) (none j h)));
+      ends = λ h. absurd (omega arith);
+    }))
     (first_cases (λ j. not (same (cell_round line x) (cell_round line (x + j)))) (length line))
 
 -- a float has more cells than d where the d cells past its first equal it
@@ -44,9 +44,9 @@ pub longer : (line : List Bool) (x d : ℕ) → d < length line → ((j : ℕ) �
 longer line x d h each = ⊎_elim
     (λ (more : d < length_at line x). more)
     (λ (less : length_at line x ≤ d).
-        let is = length_is line x in
-        absurd (both_ways (same (cell_round line x) (cell_round line (x + length_at line x))) (is.ends (omega arith))
-          (same-refl (cell_round line x) (cell_round line (x + length_at line x)) (sym (each (length_at line x) less)))))
+    let is = length_is line x in
+    absurd (both_ways (same (cell_round line x) (cell_round line (x + length_at line x))) (is.ends (omega arith))
+    (same-refl (cell_round line x) (cell_round line (x + length_at line x)) (sym (each (length_at line x) less)))))
     (cases_lt d (length_at line x))
 
 pub starts_turns : (line : List Bool) (a b q r : ℕ) → 0 < length line → a + length line * q ≡ b + length line * r → starts_at line a ≡ starts_at line b
@@ -72,11 +72,11 @@ pub ends_within : (line : List Bool) (x : ℕ) → 0 < length line → starts_at
 ends_within line x some starts = ⊎_elim
     (λ (less : length_at line x < length line). less)
     (λ (more : length line ≤ length_at line x).
-        let is = length_is line x in
-        let back : cell_round line (x + (length line - 1)) ≡ cell_round line x = is.inside (length line - 1) (omega arith) in
-        let moved : cell_round line (x + length line - 1) ≡ cell_round line x = ap (cell_round line) (omega arith) ∙ back in
-        absurd (both_ways (same (cell_round line (x + length line - 1)) (cell_round line x)) (not-true (same (cell_round line (x + length line - 1)) (cell_round line x)) starts)
-          (same-refl (cell_round line (x + length line - 1)) (cell_round line x) moved)))
+    let is = length_is line x in
+    let back : cell_round line (x + (length line - 1)) ≡ cell_round line x = is.inside (length line - 1) (omega arith) in
+    let moved : cell_round line (x + length line - 1) ≡ cell_round line x = ap (cell_round line) (omega arith) ∙ back in
+    absurd (both_ways (same (cell_round line (x + length line - 1)) (cell_round line x)) (not-true (same (cell_round line (x + length line - 1)) (cell_round line x)) starts)
+    (same-refl (cell_round line (x + length line - 1)) (cell_round line x) moved)))
     (cases_lt (length_at line x) (length line))
 
 pub some_length : (line : List Bool) (x : ℕ) → 0 < length line → 0 < length_at line x
@@ -88,9 +88,9 @@ none_inside line x j some more less =
     let is = length_is line x in
     let here : cell_round line (x + j) ≡ cell_round line x = is.inside j less in
     let before : cell_round line (x + j + length line - 1) ≡ cell_round line x =
-        same_cell line (x + j + length line - 1) (x + (j - 1)) 0 1 (omega arith) ∙ is.inside (j - 1) (omega arith) in
+    same_cell line (x + j + length line - 1) (x + (j - 1)) 0 1 (omega arith) ∙ is.inside (j - 1) (omega arith) in
     not_from_true (same (cell_round line (x + j + length line - 1)) (cell_round line (x + j)))
-      (same-refl (cell_round line (x + j + length line - 1)) (cell_round line (x + j)) (before ∙ sym here))
+    (same-refl (cell_round line (x + j + length line - 1)) (cell_round line (x + j)) (before ∙ sym here))
 
 -- the next float starts where one ends
 pub start_behind : (line : List Bool) (x : ℕ) → 0 < length line → starts_at line x ≡ true → starts_at line (x + length_at line x) ≡ true
@@ -98,22 +98,22 @@ start_behind line x some starts =
     let is = length_is line x in
     let many : 0 < length_at line x = some_length line x some in
     let before : cell_round line (x + length_at line x + length line - 1) ≡ cell_round line x =
-        same_cell line (x + length_at line x + length line - 1) (x + (length_at line x - 1)) 0 1 (omega arith) ∙ is.inside (length_at line x - 1) (omega arith) in
+    same_cell line (x + length_at line x + length line - 1) (x + (length_at line x - 1)) 0 1 (omega arith) ∙ is.inside (length_at line x - 1) (omega arith) in
     not_from_false (same (cell_round line (x + length_at line x + length line - 1)) (cell_round line (x + length_at line x)))
-      (differ (cell_round line x) (cell_round line (x + length_at line x)) (cell_round line (x + length_at line x + length line - 1)) (cell_round line (x + length_at line x))
-        (sym before) refl (is.ends (ends_within line x some starts)))
+    (differ (cell_round line x) (cell_round line (x + length_at line x)) (cell_round line (x + length_at line x + length line - 1)) (cell_round line (x + length_at line x))
+    (sym before) refl (is.ends (ends_within line x some starts)))
 
 -- on a line of equal cells no float starts, and the cells are equal wherever they are taken
 pub even_cells : (line : List Bool) (x : ℕ) → 0 < length line → is_even line ≡ true → cell_round line x ≡ cell_round line 0
 unfolding is_even
 even_cells line x some even =
     ap (λ y. get_or line y false) (sym (mod-mod x (length line))) ∙ sym (same_is (cell_round line 0) (cell_round line (x % length line))
-      (all_at (λ y. same (cell_round line 0) (cell_round line y)) (length line) (x % length line) even (mod_below x (length line) some)))
+    (all_at (λ y. same (cell_round line 0) (cell_round line y)) (length line) (x % length line) even (mod_below x (length line) some)))
 
 pub even_no_start : (line : List Bool) (x : ℕ) → 0 < length line → is_even line ≡ true → starts_at line x ≡ false
 even_no_start line x some even =
     not_from_true (same (cell_round line (x + length line - 1)) (cell_round line x))
-      (same-refl (cell_round line (x + length line - 1)) (cell_round line x) (even_cells line (x + length line - 1) some even ∙ sym (even_cells line x some even)))
+    (same-refl (cell_round line (x + length line - 1)) (cell_round line x) (even_cells line (x + length line - 1) some even ∙ sym (even_cells line x some even)))
 
 pub uneven : (line : List Bool) (x : ℕ) → 0 < length line → starts_at line x ≡ true → is_even line ≡ false
 uneven line x some starts = ⊎_elim (λ (e : is_even line ≡ true). absurd (both_ways (starts_at line x) (even_no_start line x some e) starts)) (λ (e : is_even line ≡ false). e) (cases_Bool (is_even line))

@@ -39,9 +39,9 @@ pub passed_over : (line : List Bool) (x many : ℕ) → ((j : ℕ) → j < many 
 passed_over line x zero none = ap (floats_from line) (omega arith)
 passed_over line x (suc many) none = ⊎_elim
     (λ (h : x < length line).
-        from_none line x h (ap (starts_at line) (omega arith) ∙ none 0 (omega arith))
-        ∙ passed_over line (x + 1) many (λ j below. ap (starts_at line) (omega arith) ∙ none (j + 1) (omega arith))
-        ∙ ap (floats_from line) (omega arith))
+    from_none line x h (ap (starts_at line) (omega arith) ∙ none 0 (omega arith))
+    ∙ passed_over line (x + 1) many (λ j below. ap (starts_at line) (omega arith) ∙ none (j + 1) (omega arith))
+    ∙ ap (floats_from line) (omega arith))
     (λ (h : length line ≤ x). from_end line x h ∙ sym (from_end line (x + suc many) (omega arith)))
     (cases_lt x (length line))
 
@@ -51,8 +51,8 @@ one_more line x h starts =
     let some : 0 < length line = omega arith in
     from_one line x h starts
     ∙ ap (λ rest. float_at line x ∷ rest)
-      (passed_over line (x + 1) (length_at line x - 1) (λ j below. ap (starts_at line) (omega arith) ∙ none_inside line x (j + 1) some (omega arith) (omega arith))
-      ∙ ap (floats_from line) (let many : 0 < length_at line x = some_length line x some in omega arith))
+    (passed_over line (x + 1) (length_at line x - 1) (λ j below. ap (starts_at line) (omega arith) ∙ none_inside line x (j + 1) some (omega arith) (omega arith))
+    ∙ ap (floats_from line) (let many : 0 < length_at line x = some_length line x some in omega arith))
 
 -- the floats from the first start on are all of them
 pub all_from_first : (line : List Bool) (x : ℕ) → IsFirstStart line x → floats_from line x ≡ runs_of line
@@ -76,14 +76,14 @@ pub any_float : (p : Run → Bool) (line : List Bool) (x many y : ℕ) → x ≤
 any_float p line x zero y low high starts passes = absurd (omega arith)
 any_float p line x (suc many) y low high starts passes = ⊎_elim
     (λ (here : y ≡ x).
-        ap (list_any p) (in_one line x many (sym (ap (starts_at line) here) ∙ starts))
-        ∙ or_left (p (float_at line x)) (list_any p (floats_in line (x + 1) many)) (sym (ap (λ z. p (float_at line z)) here) ∙ passes))
+    ap (list_any p) (in_one line x many (sym (ap (starts_at line) here) ∙ starts))
+    ∙ or_left (p (float_at line x)) (list_any p (floats_in line (x + 1) many)) (sym (ap (λ z. p (float_at line z)) here) ∙ passes))
     (λ (off : y ≡ x → ⊥).
-        let rest : list_any p (floats_in line (x + 1) many) ≡ true = any_float p line (x + 1) many y (omega arith) (omega arith) starts passes in
-        ⊎_elim
-          (λ (e : starts_at line x ≡ true). ap (list_any p) (in_one line x many e) ∙ or_right (p (float_at line x)) (list_any p (floats_in line (x + 1) many)) rest)
-          (λ (e : starts_at line x ≡ false). ap (list_any p) (in_none line x many e) ∙ rest)
-          (cases_Bool (starts_at line x)))
+    let rest : list_any p (floats_in line (x + 1) many) ≡ true = any_float p line (x + 1) many y (omega arith) (omega arith) starts passes in
+    ⊎_elim
+    (λ (e : starts_at line x ≡ true). ap (list_any p) (in_one line x many e) ∙ or_right (p (float_at line x)) (list_any p (floats_in line (x + 1) many)) rest)
+    (λ (e : starts_at line x ≡ false). ap (list_any p) (in_none line x many e) ∙ rest)
+    (cases_Bool (starts_at line x)))
     (cases_eq y x)
 
 pub no_float : (p : Run → Bool) (line : List Bool) (x many : ℕ) → ((y : ℕ) → x ≤ y → y < x + many → starts_at line y ≡ true → p (float_at line y) ≡ false) → list_any p (floats_in line x many) ≡ false
@@ -91,6 +91,6 @@ no_float p line x zero each = refl
 no_float p line x (suc many) each =
     let rest : list_any p (floats_in line (x + 1) many) ≡ false = no_float p line (x + 1) many (λ y low high starts. each y (omega arith) (omega arith) starts) in
     ⊎_elim
-      (λ (e : starts_at line x ≡ true). ap (list_any p) (in_one line x many e) ∙ or_from (p (float_at line x)) (list_any p (floats_in line (x + 1) many)) (each x (omega arith) (omega arith) e) rest)
-      (λ (e : starts_at line x ≡ false). ap (list_any p) (in_none line x many e) ∙ rest)
-      (cases_Bool (starts_at line x))
+    (λ (e : starts_at line x ≡ true). ap (list_any p) (in_one line x many e) ∙ or_from (p (float_at line x)) (list_any p (floats_in line (x + 1) many)) (each x (omega arith) (omega arith) e) rest)
+    (λ (e : starts_at line x ≡ false). ap (list_any p) (in_none line x many e) ∙ rest)
+    (cases_Bool (starts_at line x))

@@ -42,9 +42,9 @@ long_inside line limit x k past some at within more =
     let here : cell_round line k ≡ cell_round line x = cell_past line x k past at ∙ is.inside past within in
     windows_at_places line limit k some
     ∙ any_here (λ i. all_below (λ j. same (cell_round line k) (cell_round line (k + length line * limit - i + j))) (limit + 1)) (limit + 1) i (omega arith)
-        (all_each (λ j. same (cell_round line k) (cell_round line (k + length line * limit - i + j))) (limit + 1)
-          (λ j below. same-refl (cell_round line k) (cell_round line (k + length line * limit - i + j))
-            (here ∙ sym (window_cell line x k past limit i j (past - i + j) at (omega arith) (omega arith) ∙ is.inside (past - i + j) (omega arith)))))
+    (all_each (λ j. same (cell_round line k) (cell_round line (k + length line * limit - i + j))) (limit + 1)
+    (λ j below. same-refl (cell_round line k) (cell_round line (k + length line * limit - i + j))
+    (here ∙ sym (window_cell line x k past limit i j (past - i + j) at (omega arith) (omega arith) ∙ is.inside (past - i + j) (omega arith)))))
 
 -- a window of more cells than the float meets the cell behind it or the one before it
 meets_end : (line : List Bool) (limit x k past i : ℕ) → 0 < length line → starts_at line x ≡ true → IsPast line x k past → past < length_at line x → length_at line x < length line → length_at line x ≤ limit → i ≤ limit
@@ -54,33 +54,34 @@ meets_end line limit x k past i some starts at within round less h =
     let far : limit ≤ length line * limit = within_turns (length line) limit some in
     let here : cell_round line k ≡ cell_round line x = cell_past line x k past at ∙ is.inside past within in
     ⊎_elim
-      (λ (before : past < i).
-        let j = i - past - 1 in
-        all_not (λ j. same (cell_round line k) (cell_round line (k + length line * limit - i + j))) (limit + 1) j (omega arith)
-          (differs_before line (cell_round line k) (cell_round line (k + length line * limit - i + j)) x starts here
-            (window_before line x k past limit i j some at (omega arith) (omega arith))))
-      (λ (behind : i ≤ past).
-        let j = length_at line x + i - past in
-        all_not (λ j. same (cell_round line k) (cell_round line (k + length line * limit - i + j))) (limit + 1) j (omega arith)
-          (differ (cell_round line x) (cell_round line (x + length_at line x)) (cell_round line k) (cell_round line (k + length line * limit - i + j)) (sym here)
-            (sym (window_cell line x k past limit i j (length_at line x) at (omega arith) (omega arith))) (is.ends round)))
-      (cases_lt past i) where
-  swap : (a b : Bool) → same a b ≡ false → same b a ≡ false
-  swap true true h = h
-  swap true false h = refl
-  swap false true h = refl
-  swap false false h = h
-  differs_before : (line : List Bool) (one other : Bool) (x : ℕ) → starts_at line x ≡ true → one ≡ cell_round line x → other ≡ cell_round line (x + length line - 1) → same one other ≡ false
-  differs_before line one other x starts e f =
-      differ (cell_round line x) (cell_round line (x + length line - 1)) one other (sym e) (sym f)
-        (swap (cell_round line (x + length line - 1)) (cell_round line x) (not-true (same (cell_round line (x + length line - 1)) (cell_round line x)) starts))
+    (λ (before : past < i).
+    let j = i - past - 1 in
+    all_not (λ j. same (cell_round line k) (cell_round line (k + length line * limit - i + j))) (limit + 1) j (omega arith)
+    (differs_before line (cell_round line k) (cell_round line (k + length line * limit - i + j)) x starts here
+    (window_before line x k past limit i j some at (omega arith) (omega arith))))
+    (λ (behind : i ≤ past).
+    let j = length_at line x + i - past in
+    all_not (λ j. same (cell_round line k) (cell_round line (k + length line * limit - i + j))) (limit + 1) j (omega arith)
+    (differ (cell_round line x) (cell_round line (x + length_at line x)) (cell_round line k) (cell_round line (k + length line * limit - i + j)) (sym here)
+    (sym (window_cell line x k past limit i j (length_at line x) at (omega arith) (omega arith))) (is.ends round)))
+    (cases_lt past i) where
+      swap : (a b : Bool) → same a b ≡ false → same b a ≡ false
+      swap true true h = h
+      swap true false h = refl
+      swap false true h = refl
+      swap false false h = h
+
+      differs_before : (line : List Bool) (one other : Bool) (x : ℕ) → starts_at line x ≡ true → one ≡ cell_round line x → other ≡ cell_round line (x + length line - 1) → same one other ≡ false
+      differs_before line one other x starts e f =
+          differ (cell_round line x) (cell_round line (x + length line - 1)) one other (sym e) (sym f)
+          (swap (cell_round line (x + length line - 1)) (cell_round line x) (not-true (same (cell_round line (x + length line - 1)) (cell_round line x)) starts))
 
 pub short_inside : (line : List Bool) (limit x k past : ℕ) → 0 < length line → starts_at line x ≡ true → IsPast line x k past → past < length_at line x → length_at line x < length line → length_at line x ≤ limit
     → is_long_over line limit k ≡ false
 short_inside line limit x k past some starts at within round less =
     windows_at_places line limit k some
     ∙ any_none (λ i. all_below (λ j. same (cell_round line k) (cell_round line (k + length line * limit - i + j))) (limit + 1)) (limit + 1)
-        (λ i below. meets_end line limit x k past i some starts at within round less (omega arith))
+    (λ i below. meets_end line limit x k past i some starts at within round less (omega arith))
 
 -- inside a float that starts, every position is long exactly where the float has more cells than the limit
 pub long_by_length : (line : List Bool) (limit x k past : ℕ) → 0 < length line → starts_at line x ≡ true → IsPast line x k past → past < length_at line x → length_at line x < length line
@@ -95,6 +96,6 @@ pub long_on_even : (line : List Bool) (limit k : ℕ) → 0 < length line → is
 long_on_even line limit k some even =
     windows_at_places line limit k some
     ∙ any_here (λ i. all_below (λ j. same (cell_round line k) (cell_round line (k + length line * limit - i + j))) (limit + 1)) (limit + 1) 0 (omega arith)
-        (all_each (λ j. same (cell_round line k) (cell_round line (k + length line * limit - 0 + j))) (limit + 1)
-          (λ j below. same-refl (cell_round line k) (cell_round line (k + length line * limit - 0 + j))
-            (even_cells line k some even ∙ sym (even_cells line (k + length line * limit - 0 + j) some even))))
+    (all_each (λ j. same (cell_round line k) (cell_round line (k + length line * limit - 0 + j))) (limit + 1)
+    (λ j below. same-refl (cell_round line k) (cell_round line (k + length line * limit - 0 + j))
+    (even_cells line k some even ∙ sym (even_cells line (k + length line * limit - 0 + j) some even))))

@@ -29,16 +29,16 @@ pub windows_at_places : (line : List Bool) (limit k : ℕ) → 0 < length line
 unfolding is_long_over is_window
 windows_at_places line limit k some =
     any_alike
-      (λ i. all_below (λ j. same (cell_at line (pos k)) (cell_at line ((pos k -ℤ pos i) +ℤ pos j))) (limit + 1))
-      (λ i. all_below (λ j. same (cell_round line k) (cell_round line (k + length line * limit - i + j))) (limit + 1))
-      (limit + 1)
-      (λ i h. all_alike
-        (λ j. same (cell_at line (pos k)) (cell_at line ((pos k -ℤ pos i) +ℤ pos j)))
-        (λ j. same (cell_round line k) (cell_round line (k + length line * limit - i + j)))
-        (limit + 1)
-        (λ j below.
-          ap (λ v. same v (cell_at line ((pos k -ℤ pos i) +ℤ pos j))) (cell_from line k some)
-          ∙ ap (λ v. same (cell_round line k) v) (cell_off line limit k i j some (omega arith))))
+    (λ i. all_below (λ j. same (cell_at line (pos k)) (cell_at line ((pos k -ℤ pos i) +ℤ pos j))) (limit + 1))
+    (λ i. all_below (λ j. same (cell_round line k) (cell_round line (k + length line * limit - i + j))) (limit + 1))
+    (limit + 1)
+    (λ i h. all_alike
+    (λ j. same (cell_at line (pos k)) (cell_at line ((pos k -ℤ pos i) +ℤ pos j)))
+    (λ j. same (cell_round line k) (cell_round line (k + length line * limit - i + j)))
+    (limit + 1)
+    (λ j below.
+    ap (λ v. same v (cell_at line ((pos k -ℤ pos i) +ℤ pos j))) (cell_from line k some)
+    ∙ ap (λ v. same (cell_round line k) v) (cell_off line limit k i j some (omega arith))))
 
 -- lines that agree from k - limit to k + limit
 pub alike_over : (a b : List Bool) (limit k : ℕ)
@@ -47,16 +47,16 @@ pub alike_over : (a b : List Bool) (limit k : ℕ)
 unfolding is_long_over is_window
 alike_over a b limit k near =
     any_alike
-      (λ i. all_below (λ j. same (cell_at a (pos k)) (cell_at a ((pos k -ℤ pos i) +ℤ pos j))) (limit + 1))
-      (λ i. all_below (λ j. same (cell_at b (pos k)) (cell_at b ((pos k -ℤ pos i) +ℤ pos j))) (limit + 1))
-      (limit + 1)
-      (λ i h. all_alike
-        (λ j. same (cell_at a (pos k)) (cell_at a ((pos k -ℤ pos i) +ℤ pos j)))
-        (λ j. same (cell_at b (pos k)) (cell_at b ((pos k -ℤ pos i) +ℤ pos j)))
-        (limit + 1)
-        (λ j below.
-          ap (λ v. same v (cell_at a ((pos k -ℤ pos i) +ℤ pos j))) (near (pos k) (omega (arith, ints)) (omega (arith, ints)))
-          ∙ ap (λ v. same (cell_at b (pos k)) v) (near ((pos k -ℤ pos i) +ℤ pos j) (omega (arith, ints)) (omega (arith, ints)))))
+    (λ i. all_below (λ j. same (cell_at a (pos k)) (cell_at a ((pos k -ℤ pos i) +ℤ pos j))) (limit + 1))
+    (λ i. all_below (λ j. same (cell_at b (pos k)) (cell_at b ((pos k -ℤ pos i) +ℤ pos j))) (limit + 1))
+    (limit + 1)
+    (λ i h. all_alike
+    (λ j. same (cell_at a (pos k)) (cell_at a ((pos k -ℤ pos i) +ℤ pos j)))
+    (λ j. same (cell_at b (pos k)) (cell_at b ((pos k -ℤ pos i) +ℤ pos j)))
+    (limit + 1)
+    (λ j below.
+    ap (λ v. same v (cell_at a ((pos k -ℤ pos i) +ℤ pos j))) (near (pos k) (omega (arith, ints)) (omega (arith, ints)))
+    ∙ ap (λ v. same (cell_at b (pos k)) v) (near ((pos k -ℤ pos i) +ℤ pos j) (omega (arith, ints)) (omega (arith, ints)))))
 
 pub alike_by_its_limit : (a b : List Bool) (lifted unlifted k : ℕ)
     → ((z : ℤ) → (pos k -ℤ pos (limit_of lifted unlifted (cell_at a (pos k)))) ≤ℤ z → z ≤ℤ (pos k +ℤ pos (limit_of lifted unlifted (cell_at a (pos k)))) → cell_at a z ≡ cell_at b z)

@@ -24,9 +24,9 @@ pub past_is : (n k x : ℕ) → k < n → x < n → ((k + n - x) % n + x ≡ k) 
 past_is n k x hk hx = ⊎_elim
     (λ (h : k < x). let e : (k + n - x) % n ≡ k + n - x = mod-eq_of_lt (omega arith) in inr (omega arith))
     (λ (h : x ≤ k).
-        let t : (k + n - x) % n ≡ (k - x) % n = turns n (k + n - x) (k - x) 0 1 (omega arith) in
-        let e : (k - x) % n ≡ k - x = mod-eq_of_lt (omega arith) in
-        inl (omega arith))
+    let t : (k + n - x) % n ≡ (k - x) % n = turns n (k + n - x) (k - x) 0 1 (omega arith) in
+    let e : (k - x) % n ≡ k - x = mod-eq_of_lt (omega arith) in
+    inl (omega arith))
     (cases_lt k x)
 
 -- and back

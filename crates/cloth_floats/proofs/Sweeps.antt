@@ -36,10 +36,10 @@ pub first_differs : (line : List Bool) (x : ℕ) (last : Bool) → x < length li
 first_differs line x last h is each off = record {
   within = h;
   starts = not_from_false (same (cell_round line (x + length line - 1)) (cell_round line x))
-    (differ last (get_or line x false) (cell_round line (x + length line - 1)) (cell_round line x)
+      (differ last (get_or line x false) (cell_round line (x + length line - 1)) (cell_round line x)
       (sym (behind line x x last h is each (omega arith))) (sym (cell_here line x h)) off);
   before = λ y less. not_from_true (same (cell_round line (y + length line - 1)) (cell_round line y))
-    (same-refl (cell_round line (y + length line - 1)) (cell_round line y)
+      (same-refl (cell_round line (y + length line - 1)) (cell_round line y)
       (behind line x y last h is each (omega arith) ∙ sym (cell_here line y (omega arith) ∙ each y less)));
 }
 
@@ -52,14 +52,14 @@ pub length_found : (line : List Bool) (x past : ℕ) → past < length line → 
 unfolding length_at
 length_found line x past h each off =
     sym (first_is (λ j. not (same (cell_round line x) (cell_round line (x + j)))) (length line) past h
-      (not_from_false (same (cell_round line x) (cell_round line (x + past))) off)
-      (λ j less. not_from_true (same (cell_round line x) (cell_round line (x + j))) (same-refl (cell_round line x) (cell_round line (x + j)) (sym (each j less)))))
+    (not_from_false (same (cell_round line x) (cell_round line (x + past))) off)
+    (λ j less. not_from_true (same (cell_round line x) (cell_round line (x + j))) (same-refl (cell_round line x) (cell_round line (x + j)) (sym (each j less)))))
 
 pub length_whole : (line : List Bool) (x : ℕ) → ((j : ℕ) → j < length line → cell_round line (x + j) ≡ cell_round line x) → length line ≡ length_at line x
 unfolding length_at
 length_whole line x each =
     sym (first_none (λ j. not (same (cell_round line x) (cell_round line (x + j)))) (length line)
-      (λ j less. not_from_true (same (cell_round line x) (cell_round line (x + j))) (same-refl (cell_round line x) (cell_round line (x + j)) (sym (each j less)))))
+    (λ j less. not_from_true (same (cell_round line x) (cell_round line (x + j))) (same-refl (cell_round line x) (cell_round line (x + j)) (sym (each j less)))))
 
 -- the first `many` positions from `start` on have the value, and the others are as before
 pub record IsMarked (old now : List Bool) (start many : ℕ) (value : Bool) : Type 0 where
@@ -85,9 +85,9 @@ past_of : (n start past k : ℕ) → start < n → past < n → k ≡ (start + p
 past_of n start past k hs hp e = ⊎_elim
     (λ (on : start + past < n). let is : (start + past) % n ≡ start + past = mod-eq_of_lt on in past_back n k start past hp (inl (omega arith)))
     (λ (round : n ≤ start + past).
-        let t : (start + past) % n ≡ (start + past - n) % n = turns n (start + past) (start + past - n) 0 1 (omega arith) in
-        let is : (start + past - n) % n ≡ start + past - n = mod-eq_of_lt (omega arith) in
-        past_back n k start past hp (inr (omega arith)))
+    let t : (start + past) % n ≡ (start + past - n) % n = turns n (start + past) (start + past - n) 0 1 (omega arith) in
+    let is : (start + past - n) % n ≡ start + past - n = mod-eq_of_lt (omega arith) in
+    past_back n k start past hp (inr (omega arith)))
     (cases_lt (start + past) n)
 
 pub marked_more : (old now : List Bool) (start past : ℕ) (value : Bool) → start < length old → past < length old → IsMarked old now start past value
@@ -95,13 +95,13 @@ pub marked_more : (old now : List Bool) (start past : ℕ) (value : Bool) → st
 marked_more old now start past value hs hp so_far = record {
   len = length-set now ((start + past) % length old) value ∙ so_far.len;
   inside = λ k h less. ⊎_elim
-    (λ (here : (k + length old - start) % length old ≡ past).
-        rw (place_of (length old) start past k hs hp h here) (get_or-set_same now k value false (subst (λ m. k < m) (sym so_far.len) h)))
-    (λ (before : (k + length old - start) % length old ≢ past).
-        get_or-set_other now ((start + past) % length old) k value false (λ e. before (past_of (length old) start past k hs hp e))
-        ∙ so_far.inside k h (omega arith))
-    (cases_eq ((k + length old - start) % length old) past);
+      (λ (here : (k + length old - start) % length old ≡ past).
+      rw (place_of (length old) start past k hs hp h here) (get_or-set_same now k value false (subst (λ m. k < m) (sym so_far.len) h)))
+      (λ (before : (k + length old - start) % length old ≢ past).
+      get_or-set_other now ((start + past) % length old) k value false (λ e. before (past_of (length old) start past k hs hp e))
+      ∙ so_far.inside k h (omega arith))
+      (cases_eq ((k + length old - start) % length old) past);
   outside = λ k h more.
-    get_or-set_other now ((start + past) % length old) k value false (λ e. absurd (let is = past_of (length old) start past k hs hp e in omega arith))
-    ∙ so_far.outside k h (omega arith);
+      get_or-set_other now ((start + past) % length old) k value false (λ e. absurd (let is = past_of (length old) start past k hs hp e in omega arith))
+      ∙ so_far.outside k h (omega arith);
 }

@@ -67,8 +67,8 @@ none_found p q [] none = refl
 none_found p q (x ∷ xs) none = ⊎_elim
     (λ (e : p x ≡ true). absurd (both_ways (is_some (find p (x ∷ xs))) none (ap is_some (cond-true (p x) (Some x) (find p xs) e))))
     (λ (e : p x ≡ false).
-        or_from (p x && q x) (list_any (λ x. p x && q x) xs) (and_left (p x) (q x) e)
-          (none_found p q xs (sym (ap is_some (cond-false (p x) (Some x) (find p xs) e)) ∙ none)))
+    or_from (p x && q x) (list_any (λ x. p x && q x) xs) (and_left (p x) (q x) e)
+    (none_found p q xs (sym (ap is_some (cond-false (p x) (Some x) (find p xs) e)) ∙ none)))
     (cases_Bool (p x))
 
 -- a float runs through its own start
@@ -83,10 +83,10 @@ unfolding first_long_of
 none_over line lifted unlifted some none = ⊎_elim
     (λ (even : is_even line ≡ true). absurd (both_ways (is_long line lifted unlifted 0) (none 0 some) (long_if_even line lifted unlifted 0 some even)))
     (λ (off : is_even line ≡ false).
-        ap (find (is_over lifted unlifted)) (runs_uneven line off)
-        ∙ find_none (is_over lifted unlifted) (floats_in line 0 (length line))
-          (no_float (is_over lifted unlifted) line 0 (length line)
-            (λ y low high starts. sym (long_in_float line lifted unlifted y y (omega arith) starts (omega arith) (through_start line y (omega arith))) ∙ none y (omega arith))))
+    ap (find (is_over lifted unlifted)) (runs_uneven line off)
+    ∙ find_none (is_over lifted unlifted) (floats_in line 0 (length line))
+    (no_float (is_over lifted unlifted) line 0 (length line)
+    (λ y low high starts. sym (long_in_float line lifted unlifted y y (omega arith) starts (omega arith) (through_start line y (omega arith))) ∙ none y (omega arith))))
     (cases_Bool (is_even line))
 
 none_long : (line : List Bool) (lifted unlifted : ℕ) → is_some (first_long_of line lifted unlifted) ≡ false → (k : ℕ) → k < length line → is_long line lifted unlifted k ≡ false
@@ -97,9 +97,10 @@ none_long line lifted unlifted none k h =
 -- no float is over its limit exactly where no position is long
 pub none_exactly : (line : List Bool) (lifted unlifted : ℕ) (first : Option Run) → 0 < length line → first ≡ first_long_of line lifted unlifted
     → IsNone first ↔ ((k : ℕ) → k < length line → is_long line lifted unlifted k ≡ false)
-none_exactly line lifted unlifted first some is =
-    ( (λ none. none_long line lifted unlifted (sym (ap is_some is) ∙ none))
-    , (λ none. ap is_some (is ∙ none_over line lifted unlifted some none)) )
+none_exactly line lifted unlifted first some is = (
+  (λ none. none_long line lifted unlifted (sym (ap is_some is) ∙ none)),
+  (λ none. ap is_some (is ∙ none_over line lifted unlifted some none)),
+)
 
 -- the positions of every float that starts before x have their answer
 abbrev pub Settled : List Bool → List Bool → ℕ → ℕ → ℕ → Type 0
@@ -117,31 +118,31 @@ inside_of : (line old new : List Bool) (run : Run) (value : Bool) (x : ℕ) → 
     → (k : ℕ) → k < length line → runs_through line (float_at line x) k ≡ true → get_or new k false ≡ value
 inside_of line old new run value x same_len is inside k h through =
     inside k (omega arith)
-      (subst (λ n. (k + n - run.start) % n < run.length) (sym same_len)
-        (subst (λ (r : Run). (k + length line - r.start) % length line < r.length) (sym is) (ltb-true ((k + length line - x) % length line) (length_at line x) through)))
+    (subst (λ n. (k + n - run.start) % n < run.length) (sym same_len)
+    (subst (λ (r : Run). (k + length line - r.start) % length line < r.length) (sym is) (ltb-true ((k + length line - x) % length line) (length_at line x) through)))
 
 outside_of : (line old new : List Bool) (run : Run) (x : ℕ) → length old ≡ length line → run ≡ float_at line x → Outside old new run
     → (k : ℕ) → k < length line → runs_through line (float_at line x) k ≡ false → get_or new k false ≡ get_or old k false
 outside_of line old new run x same_len is outside k h off =
     outside k (omega arith)
-      (subst (λ n. run.length ≤ (k + n - run.start) % n) (sym same_len)
-        (subst (λ (r : Run). r.length ≤ (k + length line - r.start) % length line) (sym is) (ltb-false ((k + length line - x) % length line) (length_at line x) off)))
+    (subst (λ n. run.length ≤ (k + n - run.start) % n) (sym same_len)
+    (subst (λ (r : Run). r.length ≤ (k + length line - r.start) % length line) (sym is) (ltb-false ((k + length line - x) % length line) (length_at line x) off)))
 
 pub settled_more : (line old new : List Bool) (lifted unlifted x : ℕ) (run : Run) (over : Bool) → length old ≡ length line → x < length line → starts_at line x ≡ true → run ≡ float_at line x
     → over ≡ is_over lifted unlifted run → Inside old new run over → Outside old new run → Settled line old lifted unlifted x → Settled line new lifted unlifted (x + run.length)
 settled_more line old new lifted unlifted x run over same_len hx starts is over_is inside outside so_far y k low high ys hk through =
     let many : run.length ≡ length_at line x = ap (λ r. r.length) is in
     let here : runs_through line (float_at line x) k ≡ true → get_or new k false ≡ is_long line lifted unlifted k = λ at.
-        inside_of line old new run over x same_len is inside k hk at ∙ over_is ∙ ap (is_over lifted unlifted) is ∙ sym (long_in_float line lifted unlifted x k hx starts hk at) in
+    inside_of line old new run over x same_len is inside k hk at ∙ over_is ∙ ap (is_over lifted unlifted) is ∙ sym (long_in_float line lifted unlifted x k hx starts hk at) in
     ⊎_elim
-      (λ (same_one : y ≡ x). here (subst (λ z. runs_through line (float_at line z) k ≡ true) same_one through))
-      (⊎_elim
-        (λ (before : y < x). ⊎_elim here
-          (λ (off : runs_through line (float_at line x) k ≡ false). outside_of line old new run x same_len is outside k hk off ∙ so_far y k before high ys hk through)
-          (cases_Bool (runs_through line (float_at line x) k)))
-        (λ (behind : x < y). absurd (both_ways (starts_at line y)
-          (ap (starts_at line) (let e : y ≡ x + (y - x) = omega arith in e) ∙ none_inside line x (y - x) (omega arith) (omega arith) (omega arith)) ys)))
-      (cases_order y x)
+    (λ (same_one : y ≡ x). here (subst (λ z. runs_through line (float_at line z) k ≡ true) same_one through))
+    (⊎_elim
+    (λ (before : y < x). ⊎_elim here
+    (λ (off : runs_through line (float_at line x) k ≡ false). outside_of line old new run x same_len is outside k hk off ∙ so_far y k before high ys hk through)
+    (cases_Bool (runs_through line (float_at line x) k)))
+    (λ (behind : x < y). absurd (both_ways (starts_at line y)
+    (ap (starts_at line) (let e : y ≡ x + (y - x) = omega arith in e) ∙ none_inside line x (y - x) (omega arith) (omega arith) (omega arith)) ys)))
+    (cases_order y x)
 
 pub settled_all : (line cells : List Bool) (lifted unlifted first x : ℕ) → IsFirstStart line first → length line ≤ x → Settled line cells lifted unlifted x
     → (k : ℕ) → k < length line → get_or cells k false ≡ is_long line lifted unlifted k
@@ -154,8 +155,8 @@ pub settled_even : (line old new : List Bool) (lifted unlifted : ℕ) (run : Run
 settled_even line old new lifted unlifted run same_len even is inside k h =
     let some : 0 < length line = omega arith in
     inside k (omega arith)
-      (subst (λ n. (k + n - run.start) % n < run.length) (sym same_len)
-        (subst (λ (r : Run). (k + length line - r.start) % length line < r.length) (sym is) (mod_below (k + length line - 0) (length line) some)))
+    (subst (λ n. (k + n - run.start) % n < run.length) (sym same_len)
+    (subst (λ (r : Run). (k + length line - r.start) % length line < r.length) (sym is) (mod_below (k + length line - 0) (length line) some)))
     ∙ sym (long_if_even line lifted unlifted k some even)
 
 -- a list with these answers is the list of them

@@ -11,8 +11,7 @@ ghost use Rattle.cloth_floats.specs.Windows.{is_long, is_long_over};
 pub fn a_position_is_long_where_a_float_over_its_limit_runs()
     ensures { (line : List Bool) (lifted unlifted k : ℕ) → k < length line
         → is_long line lifted unlifted k ≡ list_any (λ run. is_over lifted unlifted run && runs_through line run k) (runs_of line) }
-{
-}
+{}
 
 /// Cells farther off than the limit do not decide: two lines of one length that agree within the limit of a position, round
 /// the line, have the same answer there.
@@ -23,12 +22,10 @@ pub fn cells_within_the_limit_decide()
     ensures by_the_greater { (a b : List Bool) (lifted unlifted k : ℕ) → length a ≡ length b → 0 < length a
         → ((z : ℤ) → (pos k -ℤ pos (max lifted unlifted)) ≤ℤ z → z ≤ℤ (pos k +ℤ pos (max lifted unlifted)) → cell_at a z ≡ cell_at b z)
         → is_long a lifted unlifted k ≡ is_long b lifted unlifted k }
-{
-}
+{}
 
 /// The windows read with natural numbers alone: the line's length is added as often as the limit says, so that no place is negative.
 pub fn windows_need_no_negative_place()
     ensures { (line : List Bool) (limit k : ℕ) → 0 < length line
         → is_long_over line limit k ≡ any_below (λ i. all_below (λ j. same (cell_round line k) (cell_round line (k + length line * limit - i + j))) (limit + 1)) (limit + 1) }
-{
-}
+{}

@@ -9,7 +9,7 @@ returns-in_default-clause-each c =
 pub returns-in_default-clause-all : goal.returns-in_default-clause-all
 returns-in_default-clause-all c =
     long_list c.args.line.now c.mark.new.out c.args.lifted c.args.unlifted (c.mark.ensures.len ∙ c.requires.out)
-      (settled_even c.args.line.now c.args.out.now c.mark.new.out c.args.lifted c.args.unlifted c.endless_float.result c.requires.out c.in_default.ensures c.endless_float.ensures c.mark.ensures.inside)
+    (settled_even c.args.line.now c.args.out.now c.mark.new.out c.args.lifted c.args.unlifted c.endless_float.result c.requires.out c.in_default.ensures c.endless_float.ensures c.mark.ensures.inside)
 
 pub loop-start-preserved : goal.loop-start-preserved
 loop-start-preserved c =
@@ -19,7 +19,7 @@ loop-start-preserved c =
       len = c.mark-in-loop-start.ensures.len ∙ c.loop-start.invariant.len;
       starts = λ h. start_next line c.loop-start.start c.float_at-run.result (omega arith) starts c.float_at-run.ensures.float;
       settled = settled_more line c.loop-start.out c.mark-in-loop-start.new.out c.args.lifted c.args.unlifted c.loop-start.start c.float_at-run.result c.is_over.result
-        c.loop-start.invariant.len (omega arith) starts c.float_at-run.ensures.float c.is_over.ensures c.mark-in-loop-start.ensures.inside c.mark-in-loop-start.ensures.outside c.loop-start.invariant.settled;
+          c.loop-start.invariant.len (omega arith) starts c.float_at-run.ensures.float c.is_over.ensures c.mark-in-loop-start.ensures.inside c.mark-in-loop-start.ensures.outside c.loop-start.invariant.settled;
     }
 
 pub returns-clause-each : goal.returns-clause-each
@@ -29,4 +29,4 @@ returns-clause-each c =
 pub returns-clause-all : goal.returns-clause-all
 returns-clause-all c =
     long_list c.args.line.now c.loop-start.out c.args.lifted c.args.unlifted c.loop-start.invariant.len
-      (settled_all c.args.line.now c.loop-start.out c.args.lifted c.args.unlifted c.in-Some.first c.loop-start.start c.in-Some.ensures (omega arith) c.loop-start.invariant.settled)
+    (settled_all c.args.line.now c.loop-start.out c.args.lifted c.args.unlifted c.in-Some.first c.loop-start.start c.in-Some.ensures (omega arith) c.loop-start.invariant.settled)
