@@ -6,7 +6,7 @@ use Rattle.std.proofs.lemmas.Bool.{cases_Bool, cases_eq, cases_lt, both_ways, no
 use Rattle.mill_base.specs.Below.{any_below, all_below}
 use Rattle.mill_base.specs.Lines.{cell_round}
 use Rattle.cloth_floats.specs.Cells.{same}
-use Rattle.cloth_floats.specs.Floats.{first_below, starts_at, length_at, is_even}
+use Rattle.cloth_floats.specs.Floats.{first_below, starts_at, length_at, is_uniform}
 use Rattle.cloth_floats.proofs.Belows.{all_each, all_at, first_is, first_none, IsFirst, first_cases}
 use Rattle.cloth_floats.proofs.Rounds.{turns, same_cell, same-refl, same_is, differ}
 
@@ -104,26 +104,26 @@ start_behind line x some starts =
     (sym before) refl (is.ends (ends_within line x some starts)))
 
 -- on a line of equal cells no float starts, and the cells are equal wherever they are taken
-pub even_cells : (line : List Bool) (x : ℕ) → 0 < length line → is_even line ≡ true → cell_round line x ≡ cell_round line 0
-unfolding is_even
-even_cells line x some even =
+pub uniform_cells : (line : List Bool) (x : ℕ) → 0 < length line → is_uniform line ≡ true → cell_round line x ≡ cell_round line 0
+unfolding is_uniform
+uniform_cells line x some uniform =
     ap (λ y. get_or line y false) (sym (mod-mod x (length line))) ∙ sym (same_is (cell_round line 0) (cell_round line (x % length line))
-    (all_at (λ y. same (cell_round line 0) (cell_round line y)) (length line) (x % length line) even (mod_below x (length line) some)))
+    (all_at (λ y. same (cell_round line 0) (cell_round line y)) (length line) (x % length line) uniform (mod_below x (length line) some)))
 
-pub even_no_start : (line : List Bool) (x : ℕ) → 0 < length line → is_even line ≡ true → starts_at line x ≡ false
-even_no_start line x some even =
+pub uniform_no_start : (line : List Bool) (x : ℕ) → 0 < length line → is_uniform line ≡ true → starts_at line x ≡ false
+uniform_no_start line x some uniform =
     not_from_true (same (cell_round line (x + length line - 1)) (cell_round line x))
-    (same-refl (cell_round line (x + length line - 1)) (cell_round line x) (even_cells line (x + length line - 1) some even ∙ sym (even_cells line x some even)))
+    (same-refl (cell_round line (x + length line - 1)) (cell_round line x) (uniform_cells line (x + length line - 1) some uniform ∙ sym (uniform_cells line x some uniform)))
 
-pub uneven : (line : List Bool) (x : ℕ) → 0 < length line → starts_at line x ≡ true → is_even line ≡ false
-uneven line x some starts = ⊎_elim (λ (e : is_even line ≡ true). absurd (both_ways (starts_at line x) (even_no_start line x some e) starts)) (λ (e : is_even line ≡ false). e) (cases_Bool (is_even line))
+pub mixed : (line : List Bool) (x : ℕ) → 0 < length line → starts_at line x ≡ true → is_uniform line ≡ false
+mixed line x some starts = ⊎_elim (λ (e : is_uniform line ≡ true). absurd (both_ways (starts_at line x) (uniform_no_start line x some e) starts)) (λ (e : is_uniform line ≡ false). e) (cases_Bool (is_uniform line))
 
-pub even_from : (line : List Bool) → ((x : ℕ) → x < length line → cell_round line x ≡ cell_round line 0) → is_even line ≡ true
-unfolding is_even
-even_from line each = all_each (λ x. same (cell_round line 0) (cell_round line x)) (length line) (λ x h. same-refl (cell_round line 0) (cell_round line x) (sym (each x h)))
+pub uniform_from : (line : List Bool) → ((x : ℕ) → x < length line → cell_round line x ≡ cell_round line 0) → is_uniform line ≡ true
+unfolding is_uniform
+uniform_from line each = all_each (λ x. same (cell_round line 0) (cell_round line x)) (length line) (λ x h. same-refl (cell_round line 0) (cell_round line x) (sym (each x h)))
 
 -- a line on which no float starts is one of equal cells
-pub even_where_none : (line : List Bool) → ((x : ℕ) → x < length line → starts_at line x ≡ false) → is_even line ≡ true
-even_where_none line none = even_from line (λ x h.
+pub uniform_where_none : (line : List Bool) → ((x : ℕ) → x < length line → starts_at line x ≡ false) → is_uniform line ≡ true
+uniform_where_none line none = uniform_from line (λ x h.
     let some : 0 < length line = omega arith in
     ap (cell_round line) (omega arith) ∙ no_starts line 0 (length line - 1) some (λ j more less. ap (starts_at line) (omega arith) ∙ none j (omega arith)) x (omega arith))

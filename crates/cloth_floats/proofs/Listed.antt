@@ -3,8 +3,8 @@ use Rattle.std.proofs.Common.{◌≡◌, ℕ, zero, suc, ◌+◌, ◌-◌, ◌<�
 use Rattle.std.specs.List.{range_with_len, filter, list_any}
 use Rattle.std.proofs.lemmas.Bool.{cases_lt, cases_eq, cases_Bool, both_ways, cond-true, cond-false, or_left, or_right, or_from}
 use Rattle.cloth_floats.specs.declared.Run.{Run}
-use Rattle.cloth_floats.specs.Floats.{starts_at, length_at, is_even, float_at, endless_float, runs_of, IsFirstStart}
-use Rattle.cloth_floats.proofs.Lengths.{none_inside, some_length, uneven}
+use Rattle.cloth_floats.specs.Floats.{starts_at, length_at, is_uniform, float_at, endless_float, runs_of, IsFirstStart}
+use Rattle.cloth_floats.proofs.Lengths.{none_inside, some_length, mixed}
 
 -- the floats that start in `many` positions from x on
 abbrev pub floats_in : List Bool → ℕ → ℕ → List Run
@@ -61,15 +61,15 @@ all_from_first line x first =
     let some : 0 < length line = (let h = first.within in omega arith) in
     sym (passed_over line 0 x (λ j below. ap (starts_at line) (omega arith) ∙ first.before j below) ∙ ap (floats_from line) (omega arith))
     ∙ ap (floats_in line 0) (omega arith)
-    ∙ sym (cond-false (is_even line) (endless_float line ∷ []) (floats_in line 0 (length line)) (uneven line x some first.starts))
+    ∙ sym (cond-false (is_uniform line) (endless_float line ∷ []) (floats_in line 0 (length line)) (mixed line x some first.starts))
 
-pub runs_even : (line : List Bool) → is_even line ≡ true → runs_of line ≡ endless_float line ∷ []
+pub runs_uniform : (line : List Bool) → is_uniform line ≡ true → runs_of line ≡ endless_float line ∷ []
 unfolding runs_of
-runs_even line even = cond-true (is_even line) (endless_float line ∷ []) (floats_in line 0 (length line)) even
+runs_uniform line uniform = cond-true (is_uniform line) (endless_float line ∷ []) (floats_in line 0 (length line)) uniform
 
-pub runs_uneven : (line : List Bool) → is_even line ≡ false → runs_of line ≡ floats_in line 0 (length line)
+pub runs_mixed : (line : List Bool) → is_uniform line ≡ false → runs_of line ≡ floats_in line 0 (length line)
 unfolding runs_of
-runs_uneven line even = cond-false (is_even line) (endless_float line ∷ []) (floats_in line 0 (length line)) even
+runs_mixed line uniform = cond-false (is_uniform line) (endless_float line ∷ []) (floats_in line 0 (length line)) uniform
 
 -- a float among them that passes a test, and none that does
 pub any_float : (p : Run → Bool) (line : List Bool) (x many y : ℕ) → x ≤ y → y < x + many → starts_at line y ≡ true → p (float_at line y) ≡ true → list_any p (floats_in line x many) ≡ true

@@ -5,11 +5,11 @@ use Rattle.std.proofs.lemmas.Bool.{cases_lt, not-true, lt-ltb, le-ltb}
 use Rattle.mill_base.specs.Below.{any_below, all_below}
 use Rattle.mill_base.specs.Lines.{cell_round, cell_at}
 use Rattle.cloth_floats.specs.Cells.{same, limit_of}
-use Rattle.cloth_floats.specs.Floats.{starts_at, length_at, is_even}
+use Rattle.cloth_floats.specs.Floats.{starts_at, length_at, is_uniform}
 use Rattle.cloth_floats.specs.Windows.{is_long_over, is_long}
 use Rattle.cloth_floats.proofs.Belows.{any_here, any_none, all_each, all_not}
 use Rattle.cloth_floats.proofs.Rounds.{same_cell, same-refl, differ}
-use Rattle.cloth_floats.proofs.Lengths.{IsLength, length_is, even_cells}
+use Rattle.cloth_floats.proofs.Lengths.{IsLength, length_is, uniform_cells}
 use Rattle.cloth_floats.proofs.Places.{within_turns, windows_at_places}
 
 -- position k lies `past` places past x, round the line
@@ -92,10 +92,10 @@ long_by_length line limit x k past some starts at within round = ⊎_elim
     (cases_lt limit (length_at line x))
 
 -- a line of equal cells is long everywhere
-pub long_on_even : (line : List Bool) (limit k : ℕ) → 0 < length line → is_even line ≡ true → is_long_over line limit k ≡ true
-long_on_even line limit k some even =
+pub long_on_uniform : (line : List Bool) (limit k : ℕ) → 0 < length line → is_uniform line ≡ true → is_long_over line limit k ≡ true
+long_on_uniform line limit k some uniform =
     windows_at_places line limit k some
     ∙ any_here (λ i. all_below (λ j. same (cell_round line k) (cell_round line (k + length line * limit - i + j))) (limit + 1)) (limit + 1) 0 (omega arith)
     (all_each (λ j. same (cell_round line k) (cell_round line (k + length line * limit - 0 + j))) (limit + 1)
     (λ j below. same-refl (cell_round line k) (cell_round line (k + length line * limit - 0 + j))
-    (even_cells line k some even ∙ sym (even_cells line (k + length line * limit - 0 + j) some even))))
+    (uniform_cells line k some uniform ∙ sym (uniform_cells line (k + length line * limit - 0 + j) some uniform))))

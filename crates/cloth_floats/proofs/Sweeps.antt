@@ -5,10 +5,10 @@ use Rattle.std.proofs.Math.Nat.{mod-eq_of_lt}
 use Rattle.std.proofs.lemmas.Bool.{cases_lt, cases_eq, not_from_true, not_from_false}
 use Rattle.mill_base.specs.Lines.{cell_round}
 use Rattle.cloth_floats.specs.Cells.{same}
-use Rattle.cloth_floats.specs.Floats.{first_below, starts_at, length_at, is_even, IsFirstStart}
+use Rattle.cloth_floats.specs.Floats.{first_below, starts_at, length_at, is_uniform, IsFirstStart}
 use Rattle.cloth_floats.proofs.Belows.{first_is, first_none}
 use Rattle.cloth_floats.proofs.Rounds.{turns, same_cell, cell_here, past_is, past_back, same-refl, differ}
-use Rattle.cloth_floats.proofs.Lengths.{even_from}
+use Rattle.cloth_floats.proofs.Lengths.{uniform_from}
 
 -- a test of the code in the words of the definitions
 pub not_same : (a b : Bool) → not (beq a b) ≡ true → same b a ≡ false
@@ -43,8 +43,8 @@ first_differs line x last h is each off = record {
       (behind line x y last h is each (omega arith) ∙ sym (cell_here line y (omega arith) ∙ each y less)));
 }
 
-pub none_differs : (line : List Bool) (last : Bool) → ((z : ℕ) → z < length line → get_or line z false ≡ last) → is_even line ≡ true
-none_differs line last each = even_from line (λ x h. cell_here line x h ∙ each x h ∙ sym (cell_here line 0 (omega arith) ∙ each 0 (omega arith)))
+pub none_differs : (line : List Bool) (last : Bool) → ((z : ℕ) → z < length line → get_or line z false ≡ last) → is_uniform line ≡ true
+none_differs line last each = uniform_from line (λ x h. cell_here line x h ∙ each x h ∙ sym (cell_here line 0 (omega arith) ∙ each 0 (omega arith)))
 
 -- cells that equal the first, and one that does not
 pub length_found : (line : List Bool) (x past : ℕ) → past < length line → ((j : ℕ) → j < past → cell_round line (x + j) ≡ cell_round line x)

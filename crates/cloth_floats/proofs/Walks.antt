@@ -7,11 +7,11 @@ use Rattle.std.proofs.lemmas.Nat.{mod_below}
 use Rattle.std.proofs.lemmas.List.FromFn.{fill_by_all}
 use Rattle.std.proofs.lemmas.Bool.{cases_Bool, cases_lt, cases_eq, cases_order, both_ways, cond-true, cond-false, lt-ltb, ltb-true, ltb-false, or_parts, or_from, and_left}
 use Rattle.cloth_floats.specs.declared.Run.{Run}
-use Rattle.cloth_floats.specs.Floats.{starts_at, length_at, is_even, float_at, endless_float, runs_of, is_over, runs_through, first_long_of, IsFirstStart}
+use Rattle.cloth_floats.specs.Floats.{starts_at, length_at, is_uniform, float_at, endless_float, runs_of, is_over, runs_through, first_long_of, IsFirstStart}
 use Rattle.cloth_floats.specs.Windows.{is_long, long_of}
-use Rattle.cloth_floats.proofs.Lengths.{none_inside, start_behind, some_length, uneven}
-use Rattle.cloth_floats.proofs.Listed.{floats_from, floats_in, from_end, one_more, all_from_first, runs_even, runs_uneven, no_float}
-use Rattle.cloth_floats.proofs.Law.{long_in_float, long_if_even, IsThrough, through_each, one_line}
+use Rattle.cloth_floats.proofs.Lengths.{none_inside, start_behind, some_length, mixed}
+use Rattle.cloth_floats.proofs.Listed.{floats_from, floats_in, from_end, one_more, all_from_first, runs_uniform, runs_mixed, no_float}
+use Rattle.cloth_floats.proofs.Law.{long_in_float, long_if_uniform, IsThrough, through_each, one_line}
 
 -- the next float starts where this one ends
 pub start_next : (line : List Bool) (x : ℕ) (run : Run) → x < length line → starts_at line x ≡ true → run ≡ float_at line x → starts_at line (x + run.length) ≡ true
@@ -51,9 +51,9 @@ pub first_from : (line : List Bool) (lifted unlifted x : ℕ) → IsFirstStart l
 unfolding first_long_of
 first_from line lifted unlifted x first = ap (find (is_over lifted unlifted)) (all_from_first line x first)
 
-pub first_even : (line : List Bool) (lifted unlifted : ℕ) (run : Run) → is_even line ≡ true → run ≡ endless_float line → Some run ≡ first_long_of line lifted unlifted
+pub first_uniform : (line : List Bool) (lifted unlifted : ℕ) (run : Run) → is_uniform line ≡ true → run ≡ endless_float line → Some run ≡ first_long_of line lifted unlifted
 unfolding first_long_of
-first_even line lifted unlifted run even is = ap Some is ∙ sym (ap (find (is_over lifted unlifted)) (runs_even line even))
+first_uniform line lifted unlifted run uniform is = ap Some is ∙ sym (ap (find (is_over lifted unlifted)) (runs_uniform line uniform))
 
 -- none that passes
 find_none : (p : Run → Bool) (xs : List Run) → list_any p xs ≡ false → find p xs ≡ None
@@ -81,13 +81,13 @@ through_start line x h =
 none_over : (line : List Bool) (lifted unlifted : ℕ) → 0 < length line → ((k : ℕ) → k < length line → is_long line lifted unlifted k ≡ false) → first_long_of line lifted unlifted ≡ None
 unfolding first_long_of
 none_over line lifted unlifted some none = ⊎_elim
-    (λ (even : is_even line ≡ true). absurd (both_ways (is_long line lifted unlifted 0) (none 0 some) (long_if_even line lifted unlifted 0 some even)))
-    (λ (off : is_even line ≡ false).
-    ap (find (is_over lifted unlifted)) (runs_uneven line off)
+    (λ (uniform : is_uniform line ≡ true). absurd (both_ways (is_long line lifted unlifted 0) (none 0 some) (long_if_uniform line lifted unlifted 0 some uniform)))
+    (λ (off : is_uniform line ≡ false).
+    ap (find (is_over lifted unlifted)) (runs_mixed line off)
     ∙ find_none (is_over lifted unlifted) (floats_in line 0 (length line))
     (no_float (is_over lifted unlifted) line 0 (length line)
     (λ y low high starts. sym (long_in_float line lifted unlifted y y (omega arith) starts (omega arith) (through_start line y (omega arith))) ∙ none y (omega arith))))
-    (cases_Bool (is_even line))
+    (cases_Bool (is_uniform line))
 
 none_long : (line : List Bool) (lifted unlifted : ℕ) → is_some (first_long_of line lifted unlifted) ≡ false → (k : ℕ) → k < length line → is_long line lifted unlifted k ≡ false
 unfolding first_long_of
@@ -147,17 +147,17 @@ settled_more line old new lifted unlifted x run over same_len hx starts is over_
 pub settled_all : (line cells : List Bool) (lifted unlifted first x : ℕ) → IsFirstStart line first → length line ≤ x → Settled line cells lifted unlifted x
     → (k : ℕ) → k < length line → get_or cells k false ≡ is_long line lifted unlifted k
 settled_all line cells lifted unlifted first x at past so_far k h =
-    let some = through_each line k h (uneven line first (omega arith) at.starts) in
+    let some = through_each line k h (mixed line first (omega arith) at.starts) in
     so_far some.0 k (let w = some.1.within in omega arith) some.1.within some.1.starts h some.1.through
 
-pub settled_even : (line old new : List Bool) (lifted unlifted : ℕ) (run : Run) → length old ≡ length line → is_even line ≡ true → run ≡ endless_float line → Inside old new run true
+pub settled_uniform : (line old new : List Bool) (lifted unlifted : ℕ) (run : Run) → length old ≡ length line → is_uniform line ≡ true → run ≡ endless_float line → Inside old new run true
     → (k : ℕ) → k < length line → get_or new k false ≡ is_long line lifted unlifted k
-settled_even line old new lifted unlifted run same_len even is inside k h =
+settled_uniform line old new lifted unlifted run same_len uniform is inside k h =
     let some : 0 < length line = omega arith in
     inside k (omega arith)
     (subst (λ n. (k + n - run.start) % n < run.length) (sym same_len)
     (subst (λ (r : Run). (k + length line - r.start) % length line < r.length) (sym is) (mod_below (k + length line - 0) (length line) some)))
-    ∙ sym (long_if_even line lifted unlifted k some even)
+    ∙ sym (long_if_uniform line lifted unlifted k some uniform)
 
 -- a list with these answers is the list of them
 pub long_list : (line cells : List Bool) (lifted unlifted : ℕ) → length cells ≡ length line → ((k : ℕ) → k < length line → get_or cells k false ≡ is_long line lifted unlifted k)

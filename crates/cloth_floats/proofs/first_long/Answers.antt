@@ -1,15 +1,15 @@
 use Rattle.std.proofs.Common.{Some, None, ◌∙◌, sym, ap, arith}
 use Rattle.cloth_floats.specs.Floats.{is_over}
-use Rattle.cloth_floats.proofs.Walks.{start_next, find_here, find_behind, find_end, first_from, first_even, none_exactly}
+use Rattle.cloth_floats.proofs.Walks.{start_next, find_here, find_behind, find_end, first_from, first_uniform, none_exactly}
 use Rattle.cloth_floats.proofs.first_long.Goals as goal
 
 pub returns-in_default-clause-first : goal.returns-in_default-clause-first
-returns-in_default-clause-first c = first_even c.args.line.now c.args.lifted c.args.unlifted c.endless_float.result c.in_default.ensures c.endless_float.ensures
+returns-in_default-clause-first c = first_uniform c.args.line.now c.args.lifted c.args.unlifted c.endless_float.result c.in_default.ensures c.endless_float.ensures
 
 pub returns-in_default-clause-none : goal.returns-in_default-clause-none
 returns-in_default-clause-none c =
     none_exactly c.args.line.now c.args.lifted c.args.unlifted (Some c.endless_float.result) c.requires.line
-    (first_even c.args.line.now c.args.lifted c.args.unlifted c.endless_float.result c.in_default.ensures c.endless_float.ensures)
+    (first_uniform c.args.line.now c.args.lifted c.args.unlifted c.endless_float.result c.in_default.ensures c.endless_float.ensures)
 
 pub loop-start-init : goal.loop-start-init
 loop-start-init c = record {

@@ -1,15 +1,15 @@
 use Rattle.std.proofs.Common.{true, ◌∙◌, arith}
-use Rattle.cloth_floats.proofs.Walks.{start_next, settled_more, settled_all, settled_even, long_list}
+use Rattle.cloth_floats.proofs.Walks.{start_next, settled_more, settled_all, settled_uniform, long_list}
 use Rattle.cloth_floats.proofs.long_cells.Goals as goal
 
 pub returns-in_default-clause-each : goal.returns-in_default-clause-each
 returns-in_default-clause-each c =
-    settled_even c.args.line.now c.args.out.now c.mark.new.out c.args.lifted c.args.unlifted c.endless_float.result c.requires.out c.in_default.ensures c.endless_float.ensures c.mark.ensures.inside
+    settled_uniform c.args.line.now c.args.out.now c.mark.new.out c.args.lifted c.args.unlifted c.endless_float.result c.requires.out c.in_default.ensures c.endless_float.ensures c.mark.ensures.inside
 
 pub returns-in_default-clause-all : goal.returns-in_default-clause-all
 returns-in_default-clause-all c =
     long_list c.args.line.now c.mark.new.out c.args.lifted c.args.unlifted (c.mark.ensures.len ∙ c.requires.out)
-    (settled_even c.args.line.now c.args.out.now c.mark.new.out c.args.lifted c.args.unlifted c.endless_float.result c.requires.out c.in_default.ensures c.endless_float.ensures c.mark.ensures.inside)
+    (settled_uniform c.args.line.now c.args.out.now c.mark.new.out c.args.lifted c.args.unlifted c.endless_float.result c.requires.out c.in_default.ensures c.endless_float.ensures c.mark.ensures.inside)
 
 pub loop-start-preserved : goal.loop-start-preserved
 loop-start-preserved c =
