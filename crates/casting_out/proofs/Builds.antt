@@ -14,11 +14,11 @@ pub is_casting : (hooks : ℕ) (cast_out : List ℕ) (columns : ℕ) → IsCasti
 is_casting hooks cast_out columns = record {
   there = All-take (λ h. h < hooks) columns (live hooks cast_out) (live_below hooks cast_out);
   rising = λ c d h low.
-    let long = length-take columns (live hooks cast_out) in
-    let e = get_or-take columns (live hooks cast_out) c 0 (omega arith) in
-    let f = get_or-take columns (live hooks cast_out) d 0 (omega arith) in
-    let r = live_rise hooks cast_out c d h (omega arith) in
-    omega arith;
+      let long = length-take columns (live hooks cast_out) in
+      let e = get_or-take columns (live hooks cast_out) c 0 (omega arith) in
+      let f = get_or-take columns (live hooks cast_out) d 0 (omega arith) in
+      let r = live_rise hooks cast_out c d h (omega arith) in
+      omega arith;
 }
 
 pub told_first : (hooks : ℕ) (cast_out : List ℕ) (columns : ℕ) (f : CastingFault) → slice_get (place_faults hooks cast_out (length cast_out)) 0 ≡ Some f

@@ -35,7 +35,12 @@ impl Model for Casting {
 impl Casting {
     /// The casting of a machine with so many hooks, of which those of the list are cast out, for so many columns. The fault that is
     /// told is that of the first place of the list that has one, else that the live hooks are fewer than the columns.
-    pub fn build(alloc: Global, hooks: u32, cast_out: &[u32], columns: u32) -> Result<Casting, CastingFault>
+    pub fn build(
+        alloc: Global,
+        hooks: u32,
+        cast_out: &[u32],
+        columns: u32,
+    ) -> Result<Casting, CastingFault>
         ensures ok { IfOk result (λ c. c ≡ casting_of hooks cast_out.now columns) }
         ensures whole { IfOk result (λ c. length c.columns ≡ columns) }
         ensures sound { OnOk result (casting_fault hooks cast_out.now columns ≡ None) }
