@@ -1,6 +1,6 @@
 //! Papers by example: which image row is which pick, what a span paints, how often readings tick, and the largest papers.
-ghost use Rattle.std.specs.Prelude.{◌≡◌, ◌+◌, ◌<◌, vec_len, IfOk};
-ghost use Rattle.point_paper.specs.Papers.{lines_of, line_cells};
+ghost use Rattle.std.specs.Prelude.{◌≡◌, ◌+◌, ◌<◌};
+ghost use Rattle.point_paper.specs.Papers.{lines_of};
 
 use crate::bit_paper::BitPaper;
 use crate::paper::{LineKind, Paper, Span};
