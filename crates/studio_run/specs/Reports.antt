@@ -1,0 +1,122 @@
+-- The bytes of the report. Each line ends with one line feed, and numbers are decimal.
+use Rattle.std.specs.Prelude.{ℕ, ◌+◌, ◌==◌, Bool, codes, List, [], ◌∷◌, ◌++◌, length, map, count_by, slice_index_or, Option, Some, None, if◌then◌else◌}
+use Rattle.std.specs.Fmt.{decimal}
+use Rattle.hex.specs.Hex.{encode_lower}
+use Rattle.mill_base.specs.declared.size.Size.{Size}
+use Rattle.mill_base.specs.declared.size.Face.{Face}
+use Rattle.mill_base.specs.declared.size.Face.TheVariants.{Up, Down}
+use Rattle.draft_model.specs.Cloths.{ClothCells}
+use Rattle.draft_model.specs.declared.float_run.FloatRun.{FloatRun}
+use Rattle.draft_model.specs.declared.float_run.FloatKind.{FloatKind}
+use Rattle.draft_model.specs.declared.float_run.FloatKind.TheVariants.{Weft, Warp}
+use Rattle.draft_model.specs.declared.design.Design.{Design}
+use Rattle.studio_run.specs.declared.session_file.Session.{Session}
+use Rattle.studio_run.specs.declared.version_journal.Reply.{Reply}
+use Rattle.studio_run.specs.declared.version_journal.Reply.TheVariants.{Painted, Accepted, Refused}
+use Rattle.studio_run.specs.declared.version_journal.Entry.{Entry}
+use Rattle.studio_run.specs.declared.version_journal.Repeat.{Repeat}
+use Rattle.studio_run.specs.declared.version_journal.RunLog.{RunLog}
+use Rattle.studio_run.specs.Logs.{is_accepted}
+
+-- the lines of each item with its number, which is counted from n on
+abbrev pub lines_from : {X : Type 0} → ℕ → (ℕ → X → List ℕ) → List X → List ℕ
+lines_from n lines [] = []
+lines_from n lines (x ∷ xs) = lines n x ++ lines_from (n + 1) lines xs
+
+-- a word and a number behind it
+abbrev pub numbered : List ℕ → ℕ → List ℕ
+numbered word number = word ++ decimal number
+
+-- `design columns C picks P ends E hooks H`
+abbrev pub size_text : Size → List ℕ
+size_text size = numbered (codes "design columns ") size.columns ++ numbered (codes " picks ") size.picks
+
+abbrev pub design_line : Design → List ℕ
+design_line design = size_text design.size ++ numbered (codes " ends ") (length design.tie.ends) ++ numbered (codes " hooks ") design.casting.hooks ++ codes "\n"
+
+-- FLOAT: `weft` or `warp`, the line, `start`, the start, `length`, the length, and `endless` where it is endless
+abbrev pub kind_word : FloatKind → List ℕ
+kind_word Weft = codes "weft "
+kind_word Warp = codes "warp "
+
+abbrev pub float_text : FloatRun → List ℕ
+float_text run = numbered (kind_word run.kind) run.line ++ numbered (codes " start ") run.start ++ numbered (codes " length ") run.length
+    ++ (if run.endless then codes " endless" else [])
+
+-- REPLY: `paint`, `accepted V` or `refused FLOAT`
+abbrev pub reply_text : Reply → List ℕ
+reply_text Painted = codes "paint"
+reply_text (Accepted version) = numbered (codes "accepted ") version
+reply_text (Refused run) = codes "refused " ++ float_text run
+
+-- `act A painter I number N REPLY`, where A counts the entries of the session from 0
+abbrev pub act_line : ℕ → Entry → List ℕ
+act_line act entry = numbered (codes "act ") act ++ numbered (codes " painter ") entry.painter ++ numbered (codes " number ") entry.number
+    ++ codes " " ++ reply_text entry.reply ++ codes "\n"
+
+-- the line of an act in its shift
+abbrev pub act_in_shift : ℕ → ℕ → Entry → List ℕ
+act_in_shift shift act entry = if entry.shift == shift then act_line act entry else []
+
+-- the acts of a shift, in the order of the log
+abbrev pub act_lines : ℕ → List Entry → List ℕ
+act_lines shift entries = lines_from 0 (act_in_shift shift) entries
+
+-- `loom L repeat R version V sha256 HEX`, with ` down` behind the number of a loom of face down; R counts the loom's repeats over the
+-- session from 0, and HEX is the digest in 64 lower-case digits
+abbrev pub face_word : Face → List ℕ
+face_word Up = codes " repeat "
+face_word Down = codes " down repeat "
+
+abbrev pub loom_text : Face → ℕ → ℕ → List ℕ
+loom_text face loom number = numbered (codes "loom ") loom ++ numbered (face_word face) number
+
+abbrev pub loom_line : Face → ℕ → ℕ → Repeat → List ℕ
+loom_line face loom number woven = loom_text face loom number ++ numbered (codes " version ") woven.version
+    ++ codes " sha256 " ++ encode_lower woven.digest ++ codes "\n"
+
+-- `row p TEXT`, with `#` for a lifted end and `.` for an unlifted one, end 0 first
+abbrev pub end_mark : Bool → ℕ
+end_mark lifted = if lifted then 35 else 46
+
+abbrev pub row_text : List Bool → List ℕ
+row_text row = map end_mark row
+
+abbrev pub row_line : ℕ → List Bool → List ℕ
+row_line pick row = numbered (codes "row ") pick ++ codes " " ++ row_text row ++ codes "\n"
+
+-- a line for each row, from pick 0 on; where the rows are not kept there is none
+abbrev pub cloth_lines : List (List Bool) → List ℕ
+cloth_lines rows = lines_from 0 row_line rows
+
+abbrev pub row_lines : Option ClothCells → List ℕ
+row_lines None = []
+row_lines (Some cloth) = cloth_lines cloth.rows
+
+-- the line of a repeat in its shift, followed by its rows where they are kept
+abbrev pub repeat_in_shift : ℕ → Face → ℕ → ℕ → Repeat → List ℕ
+repeat_in_shift shift face loom number woven = if woven.shift == shift then loom_line face loom number woven ++ row_lines woven.rows else []
+
+-- the repeats of a loom in a shift, in the order of the log
+abbrev pub loom_lines : ℕ → Face → ℕ → List Repeat → List ℕ
+loom_lines shift face loom repeats = lines_from 0 (repeat_in_shift shift face loom) repeats
+
+-- the repeats of all looms in a shift, loom by loom
+abbrev pub lines_of_looms : ℕ → List Face → List (List Repeat) → List ℕ
+lines_of_looms shift faces looms = lines_from 0 (λ loom repeats. loom_lines shift (slice_index_or faces loom Up) loom repeats) looms
+
+-- the lines of a shift: its number, its acts, and the repeats of each loom
+abbrev pub shift_lines : Session → RunLog → ℕ → List ℕ
+shift_lines session log shift = numbered (codes "shift ") shift ++ codes "\n" ++ act_lines shift log.entries ++ lines_of_looms shift session.faces log.looms
+
+abbrev pub lines_of_shifts : Session → RunLog → List ℕ
+lines_of_shifts session log = lines_from 0 (λ shift _. shift_lines session log shift) session.shifts
+
+-- the number of the last version
+abbrev pub last_version : List Entry → ℕ
+last_version entries = count_by (λ entry. is_accepted entry.reply) entries
+
+-- the report of a session's log
+abbrev pub report : Session → RunLog → List ℕ
+report session log = codes "studio 1\n" ++ design_line session.design ++ lines_of_shifts session log
+    ++ numbered (codes "end versions ") (last_version log.entries) ++ codes "\n"
