@@ -1,15 +1,15 @@
 -- The holes of a card, and the columns of its hooks.
-use Rattle.std.proofs.Common.{◌≡◌, ◌≢◌, ◌⊎◌, inl, inr, ℕ, zero, suc, ◌+◌, ◌<◌, ◌≤◌, ◌==◌, ltb, Bool, true, false, cond, not, ◌&&◌, ◌||◌, List, [], ◌∷◌, ◌++◌, length, get_or, filter, slice_index, All, Contains, Option, Some, None, sym, ap, subst, refl, ◌∙◌, ⊎_elim, arith}
-use Rattle.std.specs.List.{range_with_len, position, position_or_len}
-use Rattle.std.proofs.lemmas.Bool.{cases_eq, cases_lt, cases_order, cases_Bool, eq-eqb, eqb-true, ne_eqb, ltb-false, not-true, cond-true}
+use Rattle.std.proofs.Common.{◌≡◌, ◌≢◌, inl, inr, ℕ, zero, suc, ◌+◌, ◌<◌, ◌≤◌, ◌==◌, ltb, Bool, true, false, cond, not, ◌&&◌, ◌||◌, List, [], ◌∷◌, ◌++◌, length, get_or, filter, slice_index, All, Contains, Some, None, sym, ap, subst, refl, ◌∙◌, ⊎_elim, arith}
+use Rattle.std.specs.List.{range_with_len, position_or_len}
+use Rattle.std.proofs.lemmas.Bool.{cases_eq, cases_lt, cases_order, eq-eqb, eqb-true, ne_eqb, ltb-false, not-true, cond-true}
 use Rattle.std.proofs.lemmas.List.{get_or_past}
 use Rattle.std.proofs.lemmas.List.FromFn.{length-map-range_with_len, get_or-map-range_with_len}
-use Rattle.std.proofs.lemmas.List.Elements.{filter_passes, filter-append, All-weaker, Contains-append_left, Contains-push}
+use Rattle.std.proofs.lemmas.List.Elements.{filter_passes, filter-append, Contains-append_left, Contains-push}
 use Rattle.std.proofs.lemmas.List.Sums.{fails_before_first}
 use Rattle.std.proofs.lemmas.List.Quantifiers.{position-Some}
 use Rattle.mill_base.specs.Below.{any_below}
 use Rattle.mill_base.specs.declared.size.Face.{Face}
-use Rattle.casting_out.specs.Castings.{CastingValue, IsCasting, column_of, is_cast_out, live}
+use Rattle.casting_out.specs.Castings.{IsCasting, column_of, is_cast_out, live}
 use Rattle.casting_out.specs.Cards.{has_hole, card, pierces}
 use Rattle.casting_out.proofs.Lists.{range_more}
 use Rattle.casting_out.proofs.Marks.{live_rise}

@@ -1,6 +1,6 @@
 //! Ties.
-ghost use Rattle.std.specs.Prelude.{◌≡◌, ◌≢◌, ◌<◌, ◌≤◌, ℕ, length, slice_index, Some, None, IfOk, IfErr, OnOk};
-ghost use Rattle.harness_ties.specs.Ties.{TieValue, IsTie, tie_of, ends_of_column};
+ghost use Rattle.std.specs.Prelude.{◌≡◌, ◌≢◌, ◌<◌, ◌≤◌, length, slice_index, Some, None, IfOk, IfErr, OnOk};
+ghost use Rattle.harness_ties.specs.Ties.{IsTie, tie_of, ends_of_column};
 ghost use Rattle.harness_ties.specs.Faults.{tie_fault};
 
 use crate::fault::TieFault;
@@ -20,7 +20,6 @@ pub struct Tie {
 }
 
 impl Model for Tie {
-    ghost use Rattle.std.specs.Prelude.{ℕ, List};
     ghost use Rattle.harness_ties.specs.Ties.{TieValue, IsTie};
     ghost use Rattle.harness_ties.specs.Groups.{Parts};
 
