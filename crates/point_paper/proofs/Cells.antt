@@ -5,7 +5,7 @@ use Rattle.std.proofs.lemmas.Bool.{cases_lt}
 use Rattle.std.proofs.lemmas.List.{ext_get_or, get_or_append_left, get_or-append-add, get_or-take, get_or-drop, get_or-replicate, length-replicate, take-append-drop}
 use Rattle.std.proofs.lemmas.List.Edits.{length-between, get_or-between}
 use Rattle.std.proofs.lemmas.List.FromFn.{length-map-range_with_len, get_or-map-range_with_len}
-use Rattle.point_paper.specs.Papers.{PaperCells, IsPaper, cell_of, pick_of, column_of, line_by, colours_by, paper_by, image_cell}
+use Rattle.point_paper.specs.Papers.{PaperCells, HaveSameCells, IsPaper, cell_of, pick_of, column_of, line_by, colours_by, paper_by, image_cell}
 
 pub length-line_by : {A : Type 0} (n : ℕ) (cell : ℕ → A) → length (line_by n cell) ≡ n
 unfolding line_by
@@ -76,10 +76,9 @@ pub paper_is : (paper : PaperCells) (cell : ℕ → ℕ → ℕ) → IsPaper pap
 paper_is paper cell whole each =
     ap (λ (xs : List ℕ). record { columns = paper.columns; picks = paper.picks; colours = xs }) (colours_are paper.colours paper.columns paper.picks cell whole each)
 
-pub same_papers : (one other : PaperCells) → IsPaper one → IsPaper other → one.columns ≡ other.columns → one.picks ≡ other.picks
-    → ((column pick : ℕ) → column < one.columns → pick < one.picks → cell_of one column pick ≡ cell_of other column pick) → one ≡ other
-same_papers one other whole whole_too columns picks each =
-    paper_is one (cell_of other) whole each ∙ ap (λ n. paper_by n one.picks (cell_of other)) columns ∙ ap (λ n. paper_by other.columns n (cell_of other)) picks
+pub same_papers : (one other : PaperCells) → IsPaper one → IsPaper other → HaveSameCells one other → one ≡ other
+same_papers one other whole whole_too same =
+    paper_is one (cell_of other) whole same.cells ∙ ap (λ n. paper_by n one.picks (cell_of other)) same.columns ∙ ap (λ n. paper_by other.columns n (cell_of other)) same.picks
     ∙ sym (paper_is other (cell_of other) whole_too (λ column pick c p. refl))
 
 -- formulas that agree on each cell make one paper

@@ -20,6 +20,12 @@ cell_of paper column pick = slice_index paper.colours (pick * paper.columns + co
 abbrev pub IsPaper : PaperCells → Type 0
 IsPaper paper = length paper.colours ≡ paper.picks * paper.columns
 
+-- two papers have one size, and the same colour number in each column of each pick
+pub record HaveSameCells (one other : PaperCells) : Type 0 where
+  pub columns : one.columns ≡ other.columns
+  pub picks : one.picks ≡ other.picks
+  pub cells : (column pick : ℕ) → column < one.columns → pick < one.picks → cell_of one column pick ≡ cell_of other column pick
+
 -- the values of a line of n cells by the formula of its k-th cell
 unfoldable pub line_by : {A : Type 0} → ℕ → (ℕ → A) → List A
 line_by n cell = map cell (range_with_len 0 n)

@@ -8,7 +8,8 @@ use mill_base::size::Size;
 use std::alloc::Global;
 use std::marker::Model;
 
-/// A paper of C columns and P picks with a truth value in each cell, which contracts see as its rows from the lowest pick on.
+/// A paper of C columns and P picks with a truth value in each cell, a bit of a word for each, which contracts
+/// see as its rows from the lowest pick on.
 #[derive(Drop)]
 pub struct BitPaper {
     size: Size,
@@ -71,6 +72,7 @@ impl BitPaper {
     {
         self.rows[pick as usize].get(column)
     }
+
     /// Sets the truth value of the cell in a column of a pick. All other cells stay.
     pub fn set(&mut self, column: u32, pick: u32, value: bool)
         requires column { column < self.old.columns }

@@ -1,10 +1,10 @@
 //! What the definitions of papers say, proved of every paper.
 ghost use Rattle.std.specs.Prelude.{◌≡◌, ℕ, ◌<◌, length, slice_index};
-ghost use Rattle.point_paper.specs.Papers.{PaperCells, IsPaper, cell_of, pick_of, column_of, paper_by};
+ghost use Rattle.point_paper.specs.Papers.{PaperCells, HaveSameCells, IsPaper, cell_of, pick_of, column_of, paper_by};
 
 /// Two papers of one size that have the same cells are one paper.
 pub fn a_paper_is_its_cells()
-    ensures { (one other : PaperCells) → IsPaper one → IsPaper other → one.columns ≡ other.columns → one.picks ≡ other.picks → ((column pick : ℕ) → column < one.columns → pick < one.picks → cell_of one column pick ≡ cell_of other column pick) → one ≡ other }
+    ensures { (one other : PaperCells) → IsPaper one → IsPaper other → HaveSameCells one other → one ≡ other }
 {}
 
 /// The paper of a formula has as many cells as its size says, and each of them has the formula's colour number.

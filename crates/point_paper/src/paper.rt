@@ -25,7 +25,8 @@ pub enum LineKind {
     Column,
 }
 
-/// A paper of C columns and P picks, which contracts see as its cells. Its cells are read by `cell` and `line` alone, and each reading is counted.
+/// A point paper (the term is Watson's and Grosicki's) of C columns and P picks, a byte for each cell, which contracts see as its
+/// cells. They are read by `cell` and `line` alone, and each reading is counted.
 #[derive(Drop)]
 pub struct Paper {
     size: Size,
@@ -53,7 +54,8 @@ impl Paper {
         Ok(Paper { size, colours })
     }
 
-    /// The paper of an image with one pixel for each cell, row by row from the top: the image's top row is the paper's highest pick.
+    /// The paper of an image with one pixel for each cell, row by row from the top. The image's top row is the paper's highest pick,
+    /// by a rule of this project's own.
     pub fn from_rows(alloc: Global, size: Size, pixels: &[u8]) -> Result<Paper, OutOfMemory>
         requires { length pixels.now ≡ size.picks * size.columns }
         ensures { IfOk result (λ p. p ≡ paper_by size.columns size.picks (image_cell size.columns size.picks pixels.now)) }
@@ -86,6 +88,7 @@ impl Paper {
         steps.tick();
         self.colours[pick as usize * self.size.columns as usize + column as usize]
     }
+
     /// Puts the colour numbers of a whole pick, from column 0 on, or of a whole column, from pick 0 on, into `out`,
     /// which has as many bytes as the line has cells. The counter ticks once for each cell.
     pub fn line<L: Ledger>(&self, kind: LineKind, index: u32, out: &mut [u8], steps: &mut Steps<L>)
