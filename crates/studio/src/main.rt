@@ -1,0 +1,32 @@
+//! The program: the studio over the files of the system, standard output and standard error.
+#![tactic(auto)]
+
+use mill_io::file_shelf::FileShelf;
+use mill_io::gate::OpenGate;
+use mill_io::output_sink::OutputSink;
+use std::process::ExitCode;
+use std::rt::{Clock, Env, Files};
+use std::{env, io};
+use studio_run::answer::studio;
+
+fn main(rt: HostRuntime) -> ExitCode {
+    let alloc = rt.alloc();
+    let words = match words(&rt) {
+        Ok(words) => words,
+        Err(_) => Vec::new(alloc),
+    };
+    let mut shelf = FileShelf::new(&rt);
+    let mut out = OutputSink::output(&rt);
+    let mut err = OutputSink::errors(rt);
+    let answer = studio(alloc, &words, &mut shelf, &mut out, &mut err, &OpenGate);
+    ExitCode::from(answer.status)
+}
+
+// The arguments without the program's name. Arguments that cannot be had whole, as one that is no text, are no command.
+fn words<R: Env + Alloc<A = std::alloc::Global>>(rt: &R) -> io::Result<Vec<String>> {
+    let mut words = Vec::new(rt.alloc());
+    for word in env::args(rt)?.skip(1) {
+        words.push(word)?;
+    }
+    Ok(words)
+}
