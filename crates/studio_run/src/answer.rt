@@ -144,3 +144,6 @@ fn run_and_report<K: Sink>(alloc: Global, session: &Session, out: &mut K) -> Out
         run_log: Some(log),
     }
 }
+
+#[cfg(test)]
+mod tests;
