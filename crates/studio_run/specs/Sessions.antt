@@ -1,5 +1,5 @@
 -- The session that the bytes of a session file denote, or the first broken rule.
-use Rattle.std.specs.Prelude.{◌≡◌, ¬◌, ℕ, ℤ, pos, negsuc, ◌-◌, ◌<◌, ◌≤◌, ◌%◌, ◌==◌, nat_le, nat_lt, Bool, true, false, ◌&&◌, bytes_eq, codes, List, [], ◌∷◌, length, map, replicate, Option, Some, None, option_and_then, option_map, if◌then◌else◌, Result, Ok, Err, IsUtf8}
+use Rattle.std.specs.Prelude.{◌≡◌, ℕ, ℤ, pos, negsuc, ◌-◌, ◌<◌, ◌≤◌, ◌%◌, ◌==◌, nat_le, nat_lt, Bool, true, false, ◌&&◌, bytes_eq, codes, List, [], ◌∷◌, length, map, replicate, Option, Some, None, option_and_then, option_map, if◌then◌else◌, Result, Ok, Err, IsUtf8}
 use Rattle.std.specs.List.{list_any, list_all}
 use Rattle.std.specs.Option.{option_map_or}
 use Rattle.toml.specs.Data.{Data, Items, no_items, item, Members, no_members, member, as_integer, as_str, as_array, as_table, get_member}
@@ -8,7 +8,7 @@ use Rattle.mill_base.specs.Words.{words_of, number_of}
 use Rattle.mill_base.specs.declared.size.Size.{Size}
 use Rattle.mill_base.specs.declared.size.Face.TheVariants.{Up}
 use Rattle.mill_io.specs.Files.{File}
-use Rattle.mill_io.specs.Reads.{Holds}
+use Rattle.mill_io.specs.Reads.{Holds, HoldsMore}
 use Rattle.weave_book.specs.declared.weaves.Weave.TheVariants.{Blank, Plain}
 use Rattle.point_paper.specs.Papers.{paper_by}
 use Rattle.harness_ties.specs.Ties.{tie_of}
@@ -22,10 +22,11 @@ use Rattle.studio_run.specs.declared.session_file.ShiftPlan.{ShiftPlan}
 use Rattle.studio_run.specs.declared.session_file.SessionFault.{SessionFault}
 use Rattle.studio_run.specs.declared.session_file.SessionFaultKind.{SessionFaultKind}
 use Rattle.studio_run.specs.declared.session_file.SessionFaultKind.TheVariants.{NotToml, NotBuilt}
+use Rattle.studio_run.specs.declared.session_file.SessionRefusal.{SessionRefusal}
+use Rattle.studio_run.specs.declared.session_file.SessionRefusal.TheVariants.{Fault, ReadFault, TooLong, OutOfMemory}
 use Rattle.studio_run.specs.declared.session_form.DesignForm.{DesignForm}
 
 infixl 10 ◌>>=◌
-
 -- the next step where the last one gave a value
 abbrev pub ◌>>=◌ : {A B : Type 0} → Option A → (A → Option B) → Option B
 o >>= f = option_and_then f o
@@ -264,6 +265,21 @@ pub record Read (name : List ℕ) (files : Option (List File)) (result : Result 
   pub held : Holds files name bytes
   pub short : length bytes ≤ 67108864
   pub denoted : SessionOf bytes result
+
+-- what a refusal to read the file of a name says: the first broken rule of the file, a read that failed in this call, whose name the
+-- shelf then has as that of the read that failed last, or more bytes than a session file may have; want of memory says nothing
+abbrev pub IsReadRefusal : List ℕ → Option (List File) → Type 0 → List ℕ → SessionRefusal → Type 0
+IsReadRefusal name files rose failed (Fault fault) = Read name files (Err fault)
+IsReadRefusal name files rose failed (ReadFault told) = (told ≡ name) × rose × (failed ≡ told)
+IsReadRefusal name files rose failed (TooLong told) = (told ≡ name) × HoldsMore files told 67108864
+IsReadRefusal name files rose failed OutOfMemory = Unit {0}
+
+-- a refusal of the bytes of a file is their first broken rule, or want of memory
+abbrev pub IsFileRefusal : List ℕ → SessionRefusal → Type 0
+IsFileRefusal bytes (Fault fault) = SessionOf bytes (Err fault)
+IsFileRefusal bytes (ReadFault told) = ⊥
+IsFileRefusal bytes (TooLong told) = ⊥
+IsFileRefusal bytes OutOfMemory = Unit {0}
 
 -- ---- what holds of the parts
 

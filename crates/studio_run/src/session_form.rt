@@ -9,7 +9,7 @@ ghost use Rattle.weave_book.specs.declared.weaves.Weave.TheVariants.{Plain};
 ghost use Rattle.draft_model.specs.Designs.{IsWithin};
 ghost use Rattle.harness_ties.specs.Ties.{tie_of};
 ghost use Rattle.casting_out.specs.Castings.{casting_of};
-ghost use Rattle.studio_run.specs.Sessions.{ IsDesignForm, act_in, act_of_words, acts_of, colours_at, colours_of, design_keys, design_of, design_table_of, dot_of, dot_of_words, even_at, guarded, has_only, is_plain as plain_in, is_plain_colour, list_at, list_in, number_at, number_between as between, number_in, only_item, painters_of, painters_of_lists, plain_design, plain_session, repeats_of, session_keys, session_of, session_of_keys, session_of_tables, shift_keys, shift_of, shift_table_of, show_in, show_of_word, shown_of, table_of };
+ghost use Rattle.studio_run.specs.Sessions.{act_in, act_of_words, acts_of, colours_at, colours_of, design_keys, design_of, design_table_of, dot_of, dot_of_words, even_at, guarded, has_only, is_plain as plain_in, is_plain_colour, list_at, list_in, number_at, number_between as between, number_in, only_item, painters_of, painters_of_lists, plain_design, plain_session, repeats_of, session_keys, session_of, session_of_keys, session_of_tables, shift_keys, shift_of, shift_table_of, show_in, show_of_word, shown_of, table_of};
 
 use crate::session_file::{Session, ShiftPlan};
 use crate::strokes::Act;
@@ -47,6 +47,7 @@ pub(crate) struct DesignForm {
 }
 
 /// The session of a document.
+#[tactic(auto, unfolding(crate::specs::Sessions::session_of, crate::specs::Sessions::session_keys))]
 pub(crate) fn read_session(alloc: Global, table: &Table) -> Result<Option<Session>, OutOfMemory>
     ensures { IfOk result (λ session. session ≡ session_of (table_view table.now)) }
 {
@@ -56,6 +57,7 @@ pub(crate) fn read_session(alloc: Global, table: &Table) -> Result<Option<Sessio
     read_keys(alloc, table)
 }
 
+#[tactic(auto, unfolding(crate::specs::Sessions::session_of_keys))]
 fn read_keys(alloc: Global, table: &Table) -> Result<Option<Session>, OutOfMemory>
     ensures { IfOk result (λ session. session ≡ session_of_keys (table_view table.now)) }
 {
@@ -77,6 +79,7 @@ fn read_keys(alloc: Global, table: &Table) -> Result<Option<Session>, OutOfMemor
     read_tables(alloc, shown, colours, design, shift)
 }
 
+#[tactic(auto, unfolding(crate::specs::Sessions::session_of_tables))]
 fn read_tables(
     alloc: Global,
     shown: bool,
@@ -162,7 +165,8 @@ fn single(items: &[Value]) -> Option<&Value>
 }
 
 fn number_between(least: u32, greatest: u32, number: i64) -> Option<u32>
-    ensures { result ≡ between least greatest number }
+    ensures number { result ≡ between least greatest number }
+    ensures within { IfSome result (λ n. IsWithin least n greatest) }
 {
     let Ok(number) = u32::try_from(number) else {
         return None;
@@ -174,7 +178,8 @@ fn number_between(least: u32, greatest: u32, number: i64) -> Option<u32>
 }
 
 fn number_of_value(value: &Value, least: u32, greatest: u32) -> Option<u32>
-    ensures { result ≡ number_in least greatest (view value.now) }
+    ensures number { result ≡ number_in least greatest (view value.now) }
+    ensures within { IfSome result (λ n. IsWithin least n greatest) }
 {
     let Some(number) = value.as_integer() else {
         return None;
@@ -183,7 +188,8 @@ fn number_of_value(value: &Value, least: u32, greatest: u32) -> Option<u32>
 }
 
 fn number_under(table: &Table, key: &str, least: u32, greatest: u32) -> Option<u32>
-    ensures { result ≡ number_at least greatest key.now (table_view table.now) }
+    ensures number { result ≡ number_at least greatest key.now (table_view table.now) }
+    ensures within { IfSome result (λ n. IsWithin least n greatest) }
 {
     let Some(value) = value_under(table, key) else {
         return None;
@@ -206,7 +212,7 @@ fn even_under(table: &Table, key: &str) -> Option<u32>
 // ---- the keys of the form
 
 fn read_show(value: Option<&Value>) -> Option<bool>
-    ensures { result ≡ shown_of (option_map (λ v. view v.now) value) }
+    ensures { result ≡ shown_of (option_map (λ v. view v.now) value.entry) }
 {
     let Some(value) = value else {
         return Some(false);
@@ -241,6 +247,7 @@ fn is_plain(table: &Table) -> bool
     word == "plain"
 }
 
+#[tactic(auto, unfolding(crate::specs::Sessions::is_plain_colour))]
 fn is_plain_table(value: &Value) -> bool
     ensures { result ≡ is_plain_colour (view value.now) }
 {
@@ -261,8 +268,10 @@ fn are_plain_tables(items: &[Value]) -> bool
     true
 }
 
+#[tactic(auto, unfolding(crate::specs::Sessions::colours_of))]
 fn count_colours(items: &[Value]) -> Option<u32>
-    ensures { result ≡ colours_of (map view items.now) }
+    ensures colours { result ≡ colours_of (map view items.now) }
+    ensures few { IfSome result (λ colours. IsWithin 1 colours 4) }
 {
     if items.is_empty() || items.len() > MOST_COLOURS || !are_plain_tables(items) {
         return None;
@@ -270,6 +279,7 @@ fn count_colours(items: &[Value]) -> Option<u32>
     Some(items.len() as u32)
 }
 
+#[tactic(auto, unfolding(crate::specs::Sessions::colours_at))]
 fn read_colours(table: &Table) -> Option<u32>
     ensures colours { result ≡ colours_at (table_view table.now) }
     ensures few { IfSome result (λ colours. IsWithin 1 colours 4) }
@@ -280,15 +290,20 @@ fn read_colours(table: &Table) -> Option<u32>
     count_colours(items)
 }
 
+#[tactic(auto, unfolding(crate::specs::Sessions::design_table_of, crate::specs::Sessions::design_keys))]
 fn design_table(table: &Table) -> Option<&Table>
     ensures { option_map (λ design. table_view design.now) result ≡ design_table_of (table_view table.now) }
 {
     let Some(design) = value_under(table, "design") else {
         return None;
     };
-    table_in(design, &["columns", "picks", "weft_limit", "warp_limit", "opening"])
+    table_in(
+        design,
+        &["columns", "picks", "weft_limit", "warp_limit", "opening"],
+    )
 }
 
+#[tactic(auto, unfolding(crate::specs::Sessions::shift_table_of, crate::specs::Sessions::shift_keys))]
 fn shift_table(table: &Table) -> Option<&Table>
     ensures { option_map (λ shift. table_view shift.now) result ≡ shift_table_of (table_view table.now) }
 {
@@ -301,10 +316,10 @@ fn shift_table(table: &Table) -> Option<&Table>
     table_in(shift, &["repeats", "acts"])
 }
 
+#[tactic(auto, unfolding(crate::specs::Sessions::design_of))]
 fn read_design(colours: u32, table: &Table) -> Option<DesignForm>
     requires few { IsWithin 1 colours 4 }
-    ensures form { result ≡ design_of colours (table_view table.now) }
-    ensures limits { IfSome result (λ form. IsDesignForm colours form) }
+    ensures { result ≡ design_of colours (table_view table.now) }
 {
     let Some(columns) = even_under(table, "columns") else {
         return None;
@@ -345,6 +360,7 @@ fn make_dot(colours: u32, size: Size, colour: u32, column: u32, pick: u32) -> Op
     })
 }
 
+#[tactic(auto, unfolding(crate::specs::Sessions::dot_of_words))]
 fn read_dot(colours: u32, size: Size, colour: &[u8], column: &[u8], pick: &[u8]) -> Option<Act>
     requires few { colours ≤ 4 }
     ensures { result ≡ dot_of_words colours size colour.now column.now pick.now }
@@ -364,17 +380,16 @@ fn read_dot(colours: u32, size: Size, colour: &[u8], column: &[u8], pick: &[u8])
 fn read_commit(verb: &[u8]) -> Option<Act>
     ensures { result ≡ guarded (bytes_eq verb.now (codes "commit")) (Some Act.Commit) }
 {
-    if verb != b"commit" {
+    if verb != b"commit".as_slice() {
         return None;
     }
     Some(Act::Commit)
 }
 
-fn read_act(colours: u32, size: Size, words: Words<'_>) -> Option<Act>
+fn read_act(colours: u32, size: Size, mut words: Words<'_>) -> Option<Act>
     requires few { colours ≤ 4 }
-    ensures { result ≡ act_of_words colours size words }
+    ensures { result ≡ act_of_words colours size words.entry }
 {
-    let mut words = words;
     let Some(verb) = words.next() else {
         return None;
     };
@@ -387,12 +402,13 @@ fn read_act(colours: u32, size: Size, words: Words<'_>) -> Option<Act>
     let Some(pick) = words.next() else {
         return None;
     };
-    if words.next().is_some() || verb != b"dot" {
+    if words.next().is_some() || verb != b"dot".as_slice() {
         return None;
     }
     read_dot(colours, size, colour, column, pick)
 }
 
+#[tactic(auto, unfolding(crate::specs::Sessions::act_in))]
 fn act_of_value(colours: u32, size: Size, value: &Value) -> Option<Act>
     requires few { colours ≤ 4 }
     ensures { result ≡ act_in colours size (view value.now) }
@@ -403,6 +419,7 @@ fn act_of_value(colours: u32, size: Size, value: &Value) -> Option<Act>
     read_act(colours, size, Words::of(text))
 }
 
+#[tactic(auto, unfolding(crate::specs::Sessions::acts_of))]
 fn read_acts(
     alloc: Global,
     colours: u32,
@@ -451,6 +468,7 @@ fn read_lists(
     Ok(Some(painters))
 }
 
+#[tactic(auto, unfolding(crate::specs::Sessions::painters_of))]
 fn read_painters(
     alloc: Global,
     colours: u32,
@@ -458,7 +476,7 @@ fn read_painters(
     value: Option<&Value>,
 ) -> Result<Option<Listed<Listed<Act>>>, OutOfMemory>
     requires few { colours ≤ 4 }
-    ensures { IfOk result (λ painters. painters ≡ painters_of colours size (option_map (λ v. view v.now) value)) }
+    ensures { IfOk result (λ painters. painters ≡ painters_of colours size (option_map (λ v. view v.now) value.entry)) }
 {
     let Some(value) = value else {
         return Ok(Some(Listed::new(alloc)));
@@ -469,6 +487,7 @@ fn read_painters(
     read_lists(alloc, colours, size, items)
 }
 
+#[tactic(auto, unfolding(crate::specs::Sessions::repeats_of))]
 fn read_repeats(table: &Table) -> Option<u32>
     ensures { result ≡ repeats_of (table_view table.now) }
 {
@@ -481,6 +500,7 @@ fn read_repeats(table: &Table) -> Option<u32>
     number_of_value(item, 0, 16)
 }
 
+#[tactic(auto, unfolding(crate::specs::Sessions::shift_of))]
 fn read_shift(
     alloc: Global,
     colours: u32,
@@ -520,8 +540,10 @@ fn straight_tie(alloc: Global, columns: u32) -> Result<Tie, OutOfMemory>
 {
     match Tie::build(alloc, &[], columns) {
         Ok(tie) => Ok(tie),
-        Err(TieFault::OutOfMemory) => Err(OutOfMemory),
-        Err(_) => unreachable!(),
+        Err(fault) => match fault {
+            TieFault::OutOfMemory => Err(OutOfMemory),
+            _ => unreachable!(),
+        },
     }
 }
 
@@ -530,8 +552,10 @@ fn full_casting(alloc: Global, columns: u32) -> Result<Casting, OutOfMemory>
 {
     match Casting::build(alloc, columns, &[], columns) {
         Ok(casting) => Ok(casting),
-        Err(CastingFault::OutOfMemory) => Err(OutOfMemory),
-        Err(_) => unreachable!(),
+        Err(fault) => match fault {
+            CastingFault::OutOfMemory => Err(OutOfMemory),
+            _ => unreachable!(),
+        },
     }
 }
 
@@ -556,6 +580,7 @@ fn make_design(alloc: Global, colours: u32, form: &DesignForm) -> Result<Design,
     })
 }
 
+#[tactic(auto, unfolding(crate::specs::Sessions::plain_session))]
 fn make_session(
     alloc: Global,
     shown: bool,
