@@ -1,7 +1,6 @@
 -- The plain design goes together: its straight tie and its full casting have no fault.
-use Rattle.std.proofs.Common.{◌≡◌, ◌≢◌, ℕ, zero, suc, ◌+◌, ◌-◌, ◌<◌, ◌≤◌, ◌*◌, cond, not, eqb, true, List, [], ◌∷◌, length, get_or, take, filter, All, Contains, Some, None, slice_get, sym, ap, subst, refl, ◌∙◌, arith}
+use Rattle.std.proofs.Common.{◌≡◌, ◌≢◌, ℕ, zero, suc, ◌+◌, ◌-◌, ◌<◌, not, true, List, [], ◌∷◌, length, get_or, take, filter, All, Contains, None, slice_get, sym, ap, subst, refl, ◌∙◌, arith}
 use Rattle.std.specs.List.{range_with_len}
-use Rattle.std.proofs.Math.Seq.{take-length}
 use Rattle.std.proofs.lemmas.Bool.{ne_eqb}
 use Rattle.std.proofs.lemmas.List.{take_all}
 use Rattle.std.proofs.lemmas.List.Elements.{All-nil}
@@ -12,7 +11,7 @@ use Rattle.harness_ties.specs.Faults.{section_faults, column_fault, column_fault
 use Rattle.harness_ties.proofs.Ends.{end_stands}
 use Rattle.harness_ties.proofs.Lists.{none_all}
 use Rattle.harness_ties.proofs.Builds.{tie_below}
-use Rattle.casting_out.specs.Castings.{casting_of, is_cast_out, live}
+use Rattle.casting_out.specs.Castings.{is_cast_out, live}
 use Rattle.casting_out.specs.Faults.{casting_fault}
 use Rattle.casting_out.proofs.Marks.{faults_none}
 use Rattle.casting_out.proofs.Builds.{told_none}

@@ -1,5 +1,5 @@
 -- A session of the form that is built can be run.
-use Rattle.std.proofs.Common.{◌≡◌, ℕ, zero, suc, ◌+◌, ◌-◌, ◌*◌, ◌<◌, ◌≤◌, ℤ, pos, negsuc, Bool, true, false, ◌&&◌, nat_le, nat_lt, ◌==◌, ◌%◌, List, [], ◌∷◌, ◌++◌, length, get_or, take, map, replicate, sum_by, All, Option, Some, None, option_map, sym, ap, subst, refl, ◌∙◌, arith}
+use Rattle.std.proofs.Common.{◌≡◌, ℕ, zero, suc, ◌-◌, ◌<◌, ◌≤◌, ℤ, pos, negsuc, Bool, ◌&&◌, nat_le, nat_lt, ◌==◌, ◌%◌, List, [], ◌∷◌, length, get_or, map, replicate, sum_by, All, Option, Some, None, option_map, sym, ap, subst, refl, arith}
 use Rattle.std.specs.Prelude.{bytes_eq, codes}
 use Rattle.std.specs.List.{list_all}
 use Rattle.std.specs.Option.{option_and_then}
@@ -13,11 +13,10 @@ use Rattle.mill_base.specs.Words.{words_of, number_of}
 use Rattle.mill_base.specs.declared.size.Size.{Size}
 use Rattle.mill_io.specs.Files.{File}
 use Rattle.mill_io.specs.Reads.{Holds}
-use Rattle.weave_book.specs.declared.weaves.Weave.TheVariants.{Blank, Plain}
+use Rattle.weave_book.specs.declared.weaves.Weave.TheVariants.{Plain}
 use Rattle.point_paper.specs.Papers.{paper_by}
 use Rattle.point_paper.proofs.Cells.{cell_of-paper_by}
 use Rattle.draft_model.specs.Designs.{Fits, IsPaperOf, IsWithin}
-use Rattle.draft_model.specs.declared.design.Design.{Design}
 use Rattle.studio_run.specs.declared.strokes.Act.{Act}
 use Rattle.studio_run.specs.declared.strokes.Act.TheVariants.{Dot, Commit}
 use Rattle.studio_run.specs.declared.session_file.Session.{Session}
@@ -26,7 +25,7 @@ use Rattle.studio_run.specs.declared.session_file.SessionRefusal.{SessionRefusal
 use Rattle.studio_run.specs.declared.session_file.SessionRefusal.TheVariants.{Fault, ReadFault, TooLong, OutOfMemory}
 use Rattle.studio_run.specs.declared.session_form.DesignForm.{DesignForm}
 use Rattle.studio_run.specs.Plans.{FitsPlan, FitsSession, IsActOf, RunsAlone, acts_of_painter, plan_of}
-use Rattle.studio_run.specs.Sessions.{◌>>=◌, IsDesignForm, IsFileRefusal, IsReadRefusal, SessionOf, act_in, act_of_words, acts_of, all_some, colours_at, colours_of, design_of, design_table_of, dot_of, dot_of_words, even_at, guarded, has_only, is_plain_colour, list_at, list_in, number_at, number_between, number_in, only_item, painters_of, painters_of_lists, plain_design, plain_session, repeats_of, session_keys, session_of, session_of_keys, session_of_tables, shift_of, shift_table_of, shown_of}
+use Rattle.studio_run.specs.Sessions.{◌>>=◌, IsDesignForm, IsFileRefusal, IsReadRefusal, SessionOf, act_in, act_of_words, acts_of, all_some, colours_at, colours_of, design_of, design_table_of, dot_of, dot_of_words, even_at, guarded, has_only, is_plain_colour, list_at, list_in, number_at, number_between, number_in, painters_of, painters_of_lists, plain_design, plain_session, repeats_of, session_keys, session_of, session_of_keys, session_of_tables, shift_of, shift_table_of, shown_of}
 use Rattle.studio_run.proofs.Members.{guarded_some}
 use Rattle.studio_run.proofs.PlainDesigns.{length-full, length-straight, straight_below}
 

@@ -13,7 +13,8 @@ const COLOUR: &str = "[[colour]]\nweave = \"plain\"\n";
 
 const SHIFT: &str = "[[shift]]\nrepeats = [1]\n";
 
-const FIVE_COLOURS: &str = "colour = [{ weave = \"plain\" }, { weave = \"plain\" }, { weave = \"plain\" }, { weave = \"plain\" }, { weave = \"plain\" }]\n";
+const FIVE_COLOURS: &str =
+    "colour = [{ weave = \"plain\" }, { weave = \"plain\" }, { weave = \"plain\" }, { weave = \"plain\" }, { weave = \"plain\" }]\n";
 
 // The session of a document in four parts.
 fn read_parts(alloc: Global, parts: &[&str]) -> Result<Session, SessionRefusal> {
@@ -30,10 +31,13 @@ fn read_parts(alloc: Global, parts: &[&str]) -> Result<Session, SessionRefusal> 
 
 // What the fault of a document is; its path has to be empty.
 fn fault_kind(alloc: Global, parts: &[&str]) -> Option<SessionFaultKind> {
-    match read_parts(alloc, parts) {
-        Err(SessionRefusal::Fault(fault)) if fault.path.bytes().is_empty() => Some(fault.kind),
-        _ => None,
+    let Err(SessionRefusal::Fault(fault)) = read_parts(alloc, parts) else {
+        return None;
+    };
+    if !fault.path.bytes().is_empty() {
+        return None;
     }
+    Some(fault.kind)
 }
 
 fn first_acts(session: &Session) -> Option<&[Act]> {
@@ -57,10 +61,20 @@ fn the_smallest_session_is_read(rt: HostRuntime) -> Result<(), test::Fail> {
     };
     assert_eq!(rt; design.size, size);
     assert_eq!(rt; session.opening.size(), size);
-    assert_eq!(rt; (design.book.colours(), design.tie.ends(), design.casting.hooks()), (1, 2, 2));
+    assert_eq!(rt;
+        (
+            design.book.colours(),
+            design.tie.ends(),
+            design.casting.hooks()
+        ),
+        (1, 2, 2)
+    );
     assert_eq!(rt; (design.weft_face, design.weft_back), (1, 1));
     assert_eq!(rt; (design.warp_face, design.warp_back), (1, 1));
-    assert_eq!(rt; (design.tile, session.looms, session.show_rows), (32, 1, true));
+    assert_eq!(rt;
+        (design.tile, session.looms, session.show_rows),
+        (32, 1, true)
+    );
     assert_eq!(rt; session.faces.as_slice(), [Face::Up].as_slice());
     assert_eq!(rt; session.shifts.len(), 1);
     assert_eq!(rt; first_repeats(&session), Some([1].as_slice()));
@@ -81,14 +95,16 @@ fn a_session_with_acts_is_read(rt: HostRuntime) -> Result<(), test::Fail> {
     };
     assert_eq!(rt; first_acts(&session), Some([dot, Act::Commit].as_slice()));
     assert_eq!(rt; first_repeats(&session), Some([16].as_slice()));
-    assert_eq!(rt; (session.design.book.colours(), session.show_rows), (2, false));
+    assert_eq!(rt;
+        (session.design.book.colours(), session.show_rows),
+        (2, false)
+    );
     Ok(())
 }
 
 #[test]
 fn a_document_of_another_form_is_not_built(rt: HostRuntime) {
-    let wide =
-        "[design]\ncolumns = 66\npicks = 2\nweft_limit = 1\nwarp_limit = 1\nopening = 0\n";
+    let wide = "[design]\ncolumns = 66\npicks = 2\nweft_limit = 1\nwarp_limit = 1\nopening = 0\n";
     let odd = "[design]\ncolumns = 3\npicks = 2\nweft_limit = 1\nwarp_limit = 1\nopening = 0\n";
     let no_colour =
         "[design]\ncolumns = 2\npicks = 2\nweft_limit = 1\nwarp_limit = 1\nopening = 1\n";
@@ -101,16 +117,51 @@ fn a_document_of_another_form_is_not_built(rt: HostRuntime) {
         [TOP, odd, COLOUR, SHIFT],
         [TOP, wide, COLOUR, SHIFT],
         [TOP, no_colour, COLOUR, SHIFT],
-        [TOP, DESIGN, "[[colour]]\nweave = \"twill 2 2 right\"\n", SHIFT],
+        [
+            TOP,
+            DESIGN,
+            "[[colour]]\nweave = \"twill 2 2 right\"\n",
+            SHIFT,
+        ],
         [TOP, FIVE_COLOURS, DESIGN, SHIFT],
         [TOP, DESIGN, COLOUR, "[[shift]]\nrepeats = [17]\n"],
         [TOP, DESIGN, COLOUR, "[[shift]]\nrepeats = [1, 1]\n"],
-        [TOP, DESIGN, COLOUR, "[[shift]]\nrepeats = [1]\n[[shift]]\nrepeats = [1]\n"],
-        [TOP, DESIGN, COLOUR, "[[shift]]\nrepeats = [1]\nacts = [[], []]\n"],
-        [TOP, DESIGN, COLOUR, "[[shift]]\nrepeats = [1]\nacts = [[\"dot 0 2 0\"]]\n"],
-        [TOP, DESIGN, COLOUR, "[[shift]]\nrepeats = [1]\nacts = [[\"dot 1 0 0\"]]\n"],
-        [TOP, DESIGN, COLOUR, "[[shift]]\nrepeats = [1]\nacts = [[\"dot 1 0\"]]\n"],
-        [TOP, DESIGN, COLOUR, "[[shift]]\nrepeats = [1]\nacts = [[\"commit 1\"]]\n"],
+        [
+            TOP,
+            DESIGN,
+            COLOUR,
+            "[[shift]]\nrepeats = [1]\n[[shift]]\nrepeats = [1]\n",
+        ],
+        [
+            TOP,
+            DESIGN,
+            COLOUR,
+            "[[shift]]\nrepeats = [1]\nacts = [[], []]\n",
+        ],
+        [
+            TOP,
+            DESIGN,
+            COLOUR,
+            "[[shift]]\nrepeats = [1]\nacts = [[\"dot 0 2 0\"]]\n",
+        ],
+        [
+            TOP,
+            DESIGN,
+            COLOUR,
+            "[[shift]]\nrepeats = [1]\nacts = [[\"dot 1 0 0\"]]\n",
+        ],
+        [
+            TOP,
+            DESIGN,
+            COLOUR,
+            "[[shift]]\nrepeats = [1]\nacts = [[\"dot 1 0\"]]\n",
+        ],
+        [
+            TOP,
+            DESIGN,
+            COLOUR,
+            "[[shift]]\nrepeats = [1]\nacts = [[\"commit 1\"]]\n",
+        ],
     ] {
         let kind = fault_kind(rt.alloc(), &parts);
         assert_eq!(rt; kind, Some(SessionFaultKind::NotBuilt), "{parts:?}");
@@ -119,7 +170,10 @@ fn a_document_of_another_form_is_not_built(rt: HostRuntime) {
 
 #[test]
 fn bytes_that_are_no_document_are_not_toml(rt: HostRuntime) -> Result<(), test::Fail> {
-    assert_eq!(rt; fault_kind(rt.alloc(), &["a = "]), Some(SessionFaultKind::NotToml));
+    assert_eq!(rt;
+        fault_kind(rt.alloc(), &["a = "]),
+        Some(SessionFaultKind::NotToml)
+    );
     let mut shelf = MemoryShelf::new(rt.alloc(), Vec::new(rt.alloc()));
     shelf.add("S", &[0xff])?;
     let kind = match Session::read(rt.alloc(), &mut shelf, "S") {

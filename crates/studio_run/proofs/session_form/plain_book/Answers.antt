@@ -1,4 +1,4 @@
-use Rattle.std.proofs.Common.{◌≡◌, ◌<◌, length, ap, ◌∙◌, arith, replicate}
+use Rattle.std.proofs.Common.{◌≡◌, length, ap, ◌∙◌, arith}
 use Rattle.std.proofs.lemmas.List.{length-replicate}
 use Rattle.weave_book.specs.declared.weaves.Weave.TheVariants.{Plain}
 use Rattle.studio_run.proofs.session_form.plain_book.Goals as goal
