@@ -1,6 +1,5 @@
 -- Which sessions can be run.
 use Rattle.std.specs.Prelude.{◌≡◌, ℕ, ◌<◌, ◌≤◌, List, [], length, sum_by, slice_index_or, All}
-use Rattle.point_paper.specs.Papers.{IsPaper}
 use Rattle.draft_model.specs.Designs.{Fits, IsPaperOf, IsWithin}
 use Rattle.draft_model.specs.declared.design.Design.{Design}
 use Rattle.studio_run.specs.declared.strokes.Act.{Act}

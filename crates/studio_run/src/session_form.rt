@@ -1,0 +1,609 @@
+//! The form of a session's document: which keys its tables have, and the parts of the session that they give.
+//!
+//! A call that answers None, or Ok(None), says that the document is not of the form. The form is this project's own.
+ghost use Rattle.std.specs.Prelude.{◌≡◌, ◌≤◌, ◌-◌, [], ◌∷◌, None, Some, bytes_eq, codes, length, map, replicate, option_map, option_copied, IfOk, IfSome};
+ghost use Rattle.std.specs.List.{list_all, list_any};
+ghost use Rattle.toml.specs.View.{table_view, view};
+ghost use Rattle.toml.specs.Data.{get_member, as_str};
+ghost use Rattle.weave_book.specs.declared.weaves.Weave.TheVariants.{Plain};
+ghost use Rattle.draft_model.specs.Designs.{IsWithin};
+ghost use Rattle.harness_ties.specs.Ties.{tie_of};
+ghost use Rattle.casting_out.specs.Castings.{casting_of};
+ghost use Rattle.studio_run.specs.Sessions.{act_in, act_of_words, acts_of, colours_at, colours_of, design_keys, design_of, design_table_of, dot_of, dot_of_words, even_at, guarded, has_only, is_plain as plain_in, is_plain_colour, list_at, list_in, number_at, number_between as between, number_in, only_item, painters_of, painters_of_lists, plain_design, plain_session, repeats_of, session_keys, session_of, session_of_keys, session_of_tables, shift_keys, shift_of, shift_table_of, show_in, show_of_word, shown_of, table_of};
+
+use crate::session_file::{Session, ShiftPlan};
+use crate::strokes::Act;
+use casting_out::casting::Casting;
+use casting_out::fault::CastingFault;
+use draft_model::design::Design;
+use harness_ties::fault::TieFault;
+use harness_ties::tie::Tie;
+use mill_base::listed::Listed;
+use mill_base::memory::OutOfMemory;
+use mill_base::size::{Face, Size};
+use mill_base::words::{Words, number};
+use point_paper::paper::Paper;
+use std::alloc::Global;
+use toml::{Table, Value};
+use weave_book::book::Book;
+use weave_book::weaves::Weave;
+
+/// A painter has at most so many acts.
+const MOST_ACTS: usize = 64;
+
+/// A book has at most so many colours.
+const MOST_COLOURS: usize = 4;
+
+/// The side of a design's tiles.
+const TILE: u32 = 32;
+
+/// What the table `design` states: the size of the paper, how long floats may be, and the colour of the opening paper.
+#[derive(Clone, Copy, Debug, PartialEq, Eq)]
+pub(crate) struct DesignForm {
+    pub size: Size,
+    pub weft: u32,
+    pub warp: u32,
+    pub opening: u8,
+}
+
+/// The session of a document.
+#[tactic(auto, unfolding(crate::specs::Sessions::session_of, crate::specs::Sessions::session_keys))]
+pub(crate) fn read_session(alloc: Global, table: &Table) -> Result<Option<Session>, OutOfMemory>
+    ensures { IfOk result (λ session. session ≡ session_of (table_view table.now)) }
+{
+    if !has_only_keys(table, &["format", "show", "design", "colour", "shift"]) {
+        return Ok(None);
+    }
+    read_keys(alloc, table)
+}
+
+#[tactic(auto, unfolding(crate::specs::Sessions::session_of_keys))]
+fn read_keys(alloc: Global, table: &Table) -> Result<Option<Session>, OutOfMemory>
+    ensures { IfOk result (λ session. session ≡ session_of_keys (table_view table.now)) }
+{
+    let Some(_) = number_under(table, "format", 1, 1) else {
+        return Ok(None);
+    };
+    let Some(shown) = read_show(value_under(table, "show")) else {
+        return Ok(None);
+    };
+    let Some(colours) = read_colours(table) else {
+        return Ok(None);
+    };
+    let Some(design) = design_table(table) else {
+        return Ok(None);
+    };
+    let Some(shift) = shift_table(table) else {
+        return Ok(None);
+    };
+    read_tables(alloc, shown, colours, design, shift)
+}
+
+#[tactic(auto, unfolding(crate::specs::Sessions::session_of_tables))]
+fn read_tables(
+    alloc: Global,
+    shown: bool,
+    colours: u32,
+    design: &Table,
+    shift: &Table,
+) -> Result<Option<Session>, OutOfMemory>
+    requires few { IsWithin 1 colours 4 }
+    ensures { IfOk result (λ session. session ≡ session_of_tables shown colours (table_view design.now) (table_view shift.now)) }
+{
+    let Some(form) = read_design(colours, design) else {
+        return Ok(None);
+    };
+    let Some(plan) = read_shift(alloc, colours, form.size, shift)? else {
+        return Ok(None);
+    };
+    let session = make_session(alloc, shown, colours, &form, plan)?;
+    Ok(Some(session))
+}
+
+// ---- parts of a document
+
+fn value_under<'a>(table: &'a Table, key: &str) -> Option<&'a Value>
+    ensures { option_map (λ value. view value.now) result ≡ get_member key.now (table_view table.now) }
+{
+    table.get(key)
+}
+
+fn has_only_keys(table: &Table, keys: &[&str]) -> bool
+    ensures { result ≡ has_only (map (λ key. key.now) keys.now) (table_view table.now) }
+{
+    for key in table.keys() {
+        if !is_among(keys, key.as_str()) {
+            return false;
+        }
+    }
+    true
+}
+
+fn is_among(keys: &[&str], key: &str) -> bool
+    ensures { result ≡ list_any (λ k. bytes_eq k key.now) (map (λ known. known.now) keys.now) }
+{
+    keys.contains(&key)
+}
+
+fn table_in<'a>(value: &'a Value, keys: &[&str]) -> Option<&'a Table>
+    ensures { option_map (λ table. table_view table.now) result ≡ table_of (map (λ key. key.now) keys.now) (view value.now) }
+{
+    let Some(table) = value.as_table() else {
+        return None;
+    };
+    if !has_only_keys(table, keys) {
+        return None;
+    }
+    Some(table)
+}
+
+fn items_in(value: &Value) -> Option<&[Value]>
+    ensures { option_map (λ items. map view items.now) result ≡ list_in (view value.now) }
+{
+    let Some(array) = value.as_array() else {
+        return None;
+    };
+    Some(array.as_slice())
+}
+
+fn items_under<'a>(table: &'a Table, key: &str) -> Option<&'a [Value]>
+    ensures { option_map (λ items. map view items.now) result ≡ list_at key.now (table_view table.now) }
+{
+    let Some(value) = value_under(table, key) else {
+        return None;
+    };
+    items_in(value)
+}
+
+fn single(items: &[Value]) -> Option<&Value>
+    ensures { option_map (λ value. view value.now) result ≡ only_item (map view items.now) }
+{
+    let [only] = items else {
+        return None;
+    };
+    Some(only)
+}
+
+fn number_between(least: u32, greatest: u32, number: i64) -> Option<u32>
+    ensures number { result ≡ between least greatest number }
+    ensures within { IfSome result (λ n. IsWithin least n greatest) }
+{
+    let Ok(number) = u32::try_from(number) else {
+        return None;
+    };
+    if number < least || greatest < number {
+        return None;
+    }
+    Some(number)
+}
+
+fn number_of_value(value: &Value, least: u32, greatest: u32) -> Option<u32>
+    ensures number { result ≡ number_in least greatest (view value.now) }
+    ensures within { IfSome result (λ n. IsWithin least n greatest) }
+{
+    let Some(number) = value.as_integer() else {
+        return None;
+    };
+    number_between(least, greatest, number)
+}
+
+fn number_under(table: &Table, key: &str, least: u32, greatest: u32) -> Option<u32>
+    ensures number { result ≡ number_at least greatest key.now (table_view table.now) }
+    ensures within { IfSome result (λ n. IsWithin least n greatest) }
+{
+    let Some(value) = value_under(table, key) else {
+        return None;
+    };
+    number_of_value(value, least, greatest)
+}
+
+fn even_under(table: &Table, key: &str) -> Option<u32>
+    ensures { result ≡ even_at key.now (table_view table.now) }
+{
+    let Some(number) = number_under(table, key, 2, 64) else {
+        return None;
+    };
+    if number % 2 != 0 {
+        return None;
+    }
+    Some(number)
+}
+
+// ---- the keys of the form
+
+fn read_show(value: Option<&Value>) -> Option<bool>
+    ensures { result ≡ shown_of (option_map (λ v. view v.now) value.entry) }
+{
+    let Some(value) = value else {
+        return Some(false);
+    };
+    let Some(word) = value.as_str() else {
+        return None;
+    };
+    show_of(word)
+}
+
+fn show_of(word: &str) -> Option<bool>
+    ensures { result ≡ show_of_word word.now }
+{
+    if word == "rows" {
+        return Some(true);
+    }
+    if word == "digest" {
+        return Some(false);
+    }
+    None
+}
+
+fn is_plain(table: &Table) -> bool
+    ensures { result ≡ plain_in (table_view table.now) }
+{
+    let Some(weave) = value_under(table, "weave") else {
+        return false;
+    };
+    let Some(word) = weave.as_str() else {
+        return false;
+    };
+    word == "plain"
+}
+
+#[tactic(auto, unfolding(crate::specs::Sessions::is_plain_colour))]
+fn is_plain_table(value: &Value) -> bool
+    ensures { result ≡ is_plain_colour (view value.now) }
+{
+    let Some(table) = table_in(value, &["weave"]) else {
+        return false;
+    };
+    is_plain(table)
+}
+
+fn are_plain_tables(items: &[Value]) -> bool
+    ensures { result ≡ list_all is_plain_colour (map view items.now) }
+{
+    for item in items {
+        if !is_plain_table(item) {
+            return false;
+        }
+    }
+    true
+}
+
+#[tactic(auto, unfolding(crate::specs::Sessions::colours_of))]
+fn count_colours(items: &[Value]) -> Option<u32>
+    ensures colours { result ≡ colours_of (map view items.now) }
+    ensures few { IfSome result (λ colours. IsWithin 1 colours 4) }
+{
+    if items.is_empty() || items.len() > MOST_COLOURS || !are_plain_tables(items) {
+        return None;
+    }
+    Some(items.len() as u32)
+}
+
+#[tactic(auto, unfolding(crate::specs::Sessions::colours_at))]
+fn read_colours(table: &Table) -> Option<u32>
+    ensures colours { result ≡ colours_at (table_view table.now) }
+    ensures few { IfSome result (λ colours. IsWithin 1 colours 4) }
+{
+    let Some(items) = items_under(table, "colour") else {
+        return None;
+    };
+    count_colours(items)
+}
+
+#[tactic(auto, unfolding(crate::specs::Sessions::design_table_of, crate::specs::Sessions::design_keys))]
+fn design_table(table: &Table) -> Option<&Table>
+    ensures { option_map (λ design. table_view design.now) result ≡ design_table_of (table_view table.now) }
+{
+    let Some(design) = value_under(table, "design") else {
+        return None;
+    };
+    table_in(
+        design,
+        &["columns", "picks", "weft_limit", "warp_limit", "opening"],
+    )
+}
+
+#[tactic(auto, unfolding(crate::specs::Sessions::shift_table_of, crate::specs::Sessions::shift_keys))]
+fn shift_table(table: &Table) -> Option<&Table>
+    ensures { option_map (λ shift. table_view shift.now) result ≡ shift_table_of (table_view table.now) }
+{
+    let Some(shifts) = items_under(table, "shift") else {
+        return None;
+    };
+    let Some(shift) = single(shifts) else {
+        return None;
+    };
+    table_in(shift, &["repeats", "acts"])
+}
+
+#[tactic(auto, unfolding(crate::specs::Sessions::design_of))]
+fn read_design(colours: u32, table: &Table) -> Option<DesignForm>
+    requires few { IsWithin 1 colours 4 }
+    ensures { result ≡ design_of colours (table_view table.now) }
+{
+    let Some(columns) = even_under(table, "columns") else {
+        return None;
+    };
+    let Some(picks) = even_under(table, "picks") else {
+        return None;
+    };
+    let Some(weft) = number_under(table, "weft_limit", 1, 255) else {
+        return None;
+    };
+    let Some(warp) = number_under(table, "warp_limit", 1, 255) else {
+        return None;
+    };
+    let Some(opening) = number_under(table, "opening", 0, colours - 1) else {
+        return None;
+    };
+    Some(DesignForm {
+        size: Size { columns, picks },
+        weft,
+        warp,
+        opening: opening as u8,
+    })
+}
+
+// ---- acts
+
+fn make_dot(colours: u32, size: Size, colour: u32, column: u32, pick: u32) -> Option<Act>
+    requires few { colours ≤ 4 }
+    ensures { result ≡ dot_of colours size colour column pick }
+{
+    if colour >= colours || column >= size.columns || pick >= size.picks {
+        return None;
+    }
+    Some(Act::Dot {
+        colour: colour as u8,
+        column,
+        pick,
+    })
+}
+
+#[tactic(auto, unfolding(crate::specs::Sessions::dot_of_words))]
+fn read_dot(colours: u32, size: Size, colour: &[u8], column: &[u8], pick: &[u8]) -> Option<Act>
+    requires few { colours ≤ 4 }
+    ensures { result ≡ dot_of_words colours size colour.now column.now pick.now }
+{
+    let Some(colour) = number(colour) else {
+        return None;
+    };
+    let Some(column) = number(column) else {
+        return None;
+    };
+    let Some(pick) = number(pick) else {
+        return None;
+    };
+    make_dot(colours, size, colour, column, pick)
+}
+
+fn read_commit(verb: &[u8]) -> Option<Act>
+    ensures { result ≡ guarded (bytes_eq verb.now (codes "commit")) (Some Act.Commit) }
+{
+    if verb != b"commit".as_slice() {
+        return None;
+    }
+    Some(Act::Commit)
+}
+
+fn read_act(colours: u32, size: Size, mut words: Words<'_>) -> Option<Act>
+    requires few { colours ≤ 4 }
+    ensures { result ≡ act_of_words colours size words.entry }
+{
+    let Some(verb) = words.next() else {
+        return None;
+    };
+    let Some(colour) = words.next() else {
+        return read_commit(verb);
+    };
+    let Some(column) = words.next() else {
+        return None;
+    };
+    let Some(pick) = words.next() else {
+        return None;
+    };
+    if words.next().is_some() || verb != b"dot".as_slice() {
+        return None;
+    }
+    read_dot(colours, size, colour, column, pick)
+}
+
+#[tactic(auto, unfolding(crate::specs::Sessions::act_in))]
+fn act_of_value(colours: u32, size: Size, value: &Value) -> Option<Act>
+    requires few { colours ≤ 4 }
+    ensures { result ≡ act_in colours size (view value.now) }
+{
+    let Some(text) = value.as_str() else {
+        return None;
+    };
+    read_act(colours, size, Words::of(text))
+}
+
+#[tactic(auto, unfolding(crate::specs::Sessions::acts_of))]
+fn read_acts(
+    alloc: Global,
+    colours: u32,
+    size: Size,
+    items: &[Value],
+) -> Result<Option<Listed<Act>>, OutOfMemory>
+    requires few { colours ≤ 4 }
+    ensures { IfOk result (λ acts. acts ≡ acts_of colours size (map view items.now)) }
+{
+    if items.len() > MOST_ACTS {
+        return Ok(None);
+    }
+    let mut acts = Listed::new(alloc);
+    for item in items {
+        let Some(act) = act_of_value(colours, size, item) else {
+            return Ok(None);
+        };
+        acts.push(act)?;
+    }
+    Ok(Some(acts))
+}
+
+fn read_lists(
+    alloc: Global,
+    colours: u32,
+    size: Size,
+    items: &[Value],
+) -> Result<Option<Listed<Listed<Act>>>, OutOfMemory>
+    requires few { colours ≤ 4 }
+    ensures { IfOk result (λ painters. painters ≡ painters_of_lists colours size (map view items.now)) }
+{
+    let mut painters = Listed::new(alloc);
+    if items.is_empty() {
+        return Ok(Some(painters));
+    }
+    let Some(item) = single(items) else {
+        return Ok(None);
+    };
+    let Some(texts) = items_in(item) else {
+        return Ok(None);
+    };
+    let Some(acts) = read_acts(alloc, colours, size, texts)? else {
+        return Ok(None);
+    };
+    painters.push(acts)?;
+    Ok(Some(painters))
+}
+
+#[tactic(auto, unfolding(crate::specs::Sessions::painters_of))]
+fn read_painters(
+    alloc: Global,
+    colours: u32,
+    size: Size,
+    value: Option<&Value>,
+) -> Result<Option<Listed<Listed<Act>>>, OutOfMemory>
+    requires few { colours ≤ 4 }
+    ensures { IfOk result (λ painters. painters ≡ painters_of colours size (option_map (λ v. view v.now) value.entry)) }
+{
+    let Some(value) = value else {
+        return Ok(Some(Listed::new(alloc)));
+    };
+    let Some(items) = items_in(value) else {
+        return Ok(None);
+    };
+    read_lists(alloc, colours, size, items)
+}
+
+#[tactic(auto, unfolding(crate::specs::Sessions::repeats_of))]
+fn read_repeats(table: &Table) -> Option<u32>
+    ensures { result ≡ repeats_of (table_view table.now) }
+{
+    let Some(items) = items_under(table, "repeats") else {
+        return None;
+    };
+    let Some(item) = single(items) else {
+        return None;
+    };
+    number_of_value(item, 0, 16)
+}
+
+#[tactic(auto, unfolding(crate::specs::Sessions::shift_of))]
+fn read_shift(
+    alloc: Global,
+    colours: u32,
+    size: Size,
+    table: &Table,
+) -> Result<Option<ShiftPlan>, OutOfMemory>
+    requires few { colours ≤ 4 }
+    ensures { IfOk result (λ plan. plan ≡ shift_of colours size (table_view table.now)) }
+{
+    let Some(count) = read_repeats(table) else {
+        return Ok(None);
+    };
+    let Some(painters) = read_painters(alloc, colours, size, value_under(table, "acts"))? else {
+        return Ok(None);
+    };
+    let mut repeats = Listed::new(alloc);
+    repeats.push(count)?;
+    Ok(Some(ShiftPlan { repeats, painters }))
+}
+
+// ---- the session of the parts
+
+fn plain_book(alloc: Global, colours: u32) -> Result<Book, OutOfMemory>
+    requires few { colours ≤ 4 }
+    ensures { IfOk result (λ book. book ≡ replicate colours Plain) }
+{
+    let mut book = Book::new(alloc);
+    for _ in 0..colours {
+        book.add(Weave::Plain)?;
+    }
+    Ok(book)
+}
+
+fn straight_tie(alloc: Global, columns: u32) -> Result<Tie, OutOfMemory>
+    requires columns { IsWithin 1 columns 4096 }
+    ensures { IfOk result (λ tie. tie ≡ record { columns = columns; ends = tie_of [] columns }) }
+{
+    match Tie::build(alloc, &[], columns) {
+        Ok(tie) => Ok(tie),
+        Err(fault) => match fault {
+            TieFault::OutOfMemory => Err(OutOfMemory),
+            _ => unreachable!(),
+        },
+    }
+}
+
+fn full_casting(alloc: Global, columns: u32) -> Result<Casting, OutOfMemory>
+    ensures { IfOk result (λ casting. casting ≡ casting_of columns [] columns) }
+{
+    match Casting::build(alloc, columns, &[], columns) {
+        Ok(casting) => Ok(casting),
+        Err(fault) => match fault {
+            CastingFault::OutOfMemory => Err(OutOfMemory),
+            _ => unreachable!(),
+        },
+    }
+}
+
+fn make_design(alloc: Global, colours: u32, form: &DesignForm) -> Result<Design, OutOfMemory>
+    requires few { colours ≤ 4 }
+    requires columns { IsWithin 1 form.now.size.columns 4096 }
+    ensures { IfOk result (λ design. design ≡ plain_design colours form.now) }
+{
+    let columns = form.size.columns;
+    Ok(Design {
+        size: form.size,
+        book: plain_book(alloc, colours)?,
+        tie: straight_tie(alloc, columns)?,
+        casting: full_casting(alloc, columns)?,
+        raise: Weave::Blank,
+        sink: Weave::Blank,
+        weft_face: form.weft,
+        weft_back: form.weft,
+        warp_face: form.warp,
+        warp_back: form.warp,
+        tile: TILE,
+    })
+}
+
+#[tactic(auto, unfolding(crate::specs::Sessions::plain_session))]
+fn make_session(
+    alloc: Global,
+    shown: bool,
+    colours: u32,
+    form: &DesignForm,
+    plan: ShiftPlan,
+) -> Result<Session, OutOfMemory>
+    requires few { colours ≤ 4 }
+    requires columns { IsWithin 1 form.now.size.columns 4096 }
+    ensures { IfOk result (λ session. session ≡ plain_session shown colours form.now plan) }
+{
+    let design = make_design(alloc, colours, form)?;
+    let opening = Paper::blank(alloc, form.size, form.opening)?;
+    let mut faces = Listed::new(alloc);
+    faces.push(Face::Up)?;
+    let mut shifts = Listed::new(alloc);
+    shifts.push(plan)?;
+    Ok(Session {
+        design,
+        opening,
+        looms: 1,
+        show_rows: shown,
+        faces,
+        shifts,
+    })
+}
