@@ -10,15 +10,28 @@ use Rattle.studio_run.specs.declared.report_text.Cause.{Cause}
 use Rattle.studio_run.specs.declared.report_text.Cause.TheVariants.{Done, Usage, Session, OutOfMemory, ReadFault, WriteFault, TooLong}
 use Rattle.studio_run.specs.declared.session_file.Session.{Session as SessionValue}
 use Rattle.studio_run.specs.declared.session_file.SessionFault.{SessionFault}
+use Rattle.studio_run.specs.declared.session_file.SessionRefusal.{SessionRefusal}
+use Rattle.studio_run.specs.declared.session_file.SessionRefusal.TheVariants.{Fault, ReadFault as CannotRead, TooLong as HasTooMuch, OutOfMemory as NoMemory}
 use Rattle.studio_run.specs.declared.version_journal.RunLog.{RunLog}
 use Rattle.studio_run.specs.Commands.{session_name}
-use Rattle.studio_run.specs.Sessions.{SessionOf, Read, file_limit}
+use Rattle.studio_run.specs.Sessions.{SessionOf, Read}
 use Rattle.studio_run.specs.Logs.{Legal}
 use Rattle.studio_run.specs.Reports.{report}
+
+-- a session file has at most so many bytes
+abbrev pub file_limit : ℕ
+file_limit = 67108864
 
 -- the words of the command line as bytes
 abbrev pub texts : List (String Global) → List (List ℕ)
 texts words = map (λ word. string_bytes word) words
+
+-- the cause of the end where the session was not read
+abbrev pub cause_of : SessionRefusal → Cause
+cause_of (Fault fault) = Session fault
+cause_of (CannotRead name) = ReadFault name
+cause_of (HasTooMuch name) = TooLong name
+cause_of NoMemory = OutOfMemory
 
 -- whether a session was run: then there is a log
 abbrev pub has_run : Cause → Bool

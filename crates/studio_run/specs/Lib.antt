@@ -5,3 +5,6 @@ pub mod Plans
 pub mod Journals
 pub mod Repeats
 pub mod Logs
+pub mod Reports
+pub mod Faults
+pub mod Answers

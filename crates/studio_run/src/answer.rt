@@ -6,10 +6,9 @@ ghost use Rattle.mill_io.specs.Reads.{HoldsMore};
 ghost use Rattle.mill_io.specs.Takes.{TookAll, TookPart};
 ghost use Rattle.studio_run.specs.declared.session_file.SessionFault.{SessionFault};
 ghost use Rattle.studio_run.specs.Commands.{session_name as session_name_of};
-ghost use Rattle.studio_run.specs.Sessions.{file_limit};
 ghost use Rattle.studio_run.specs.Faults.{line, status_of};
 ghost use Rattle.studio_run.specs.Plans.{FitsSession, RunsAlone};
-ghost use Rattle.studio_run.specs.Answers.{has_run, texts, Denotes, Ran, IsGood, IsCaused, IsRun};
+ghost use Rattle.studio_run.specs.Answers.{cause_of as cause_of_refusal, file_limit, has_run, texts, Denotes, Ran, IsGood, IsCaused, IsRun};
 
 use crate::command::session_name;
 use crate::fault_line::fault_line;
@@ -98,6 +97,18 @@ fn ended(cause: Cause) -> Outcome
     }
 }
 
+// The cause of the end where the session was not read.
+fn cause_of(refusal: SessionRefusal) -> Cause
+    ensures { result ≡ cause_of_refusal refusal }
+{
+    match refusal {
+        SessionRefusal::Fault(fault) => Cause::Session(fault),
+        SessionRefusal::ReadFault(name) => Cause::ReadFault(name),
+        SessionRefusal::TooLong(name) => Cause::TooLong(name),
+        SessionRefusal::OutOfMemory => Cause::OutOfMemory,
+    }
+}
+
 fn weave<H: Shelf, K: Sink>(alloc: Global, words: &[String], shelf: &mut H, out: &mut K) -> Outcome
     ensures files { H.files shelf.new ≡ H.files shelf.old }
     ensures caused { IsCaused (texts words.now) (record {
@@ -116,10 +127,7 @@ fn weave<H: Shelf, K: Sink>(alloc: Global, words: &[String], shelf: &mut H, out:
     };
     match Session::read(alloc, shelf, name) {
         Ok(session) => run_and_report(alloc, &session, out),
-        Err(SessionRefusal::Fault(fault)) => ended(Cause::Session(fault)),
-        Err(SessionRefusal::ReadFault(name)) => ended(Cause::ReadFault(name)),
-        Err(SessionRefusal::TooLong(name)) => ended(Cause::TooLong(name)),
-        Err(SessionRefusal::OutOfMemory) => ended(Cause::OutOfMemory),
+        Err(refusal) => ended(cause_of(refusal)),
     }
 }
 

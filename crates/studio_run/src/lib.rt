@@ -1,8 +1,11 @@
 //! The studio as one call: from the words of the command line to the report.
 #![tactic(auto)]
 
+pub mod answer;
 pub mod command;
+pub mod fault_line;
 pub mod loom_threads;
+pub mod report_text;
 pub mod session_file;
 mod session_form;
 pub mod shift_run;
