@@ -114,14 +114,14 @@ merged session acts entries alone are were zero h =
     subst (λ es. Merge (plan_of session 0) es) (sym all) (record {
       painters = painter_is_first 1 rs (length (plan_of session 0).painters) (λ some. painter_there (plan_of session 0) acts are (omega arith));
       numbers = λ painter below. let first : painter ≡ 0 = omega (arith, alone.painters) in
-        subst (λ p. numbers_of_painter p (entries_from 1 rs) ≡ range_with_len 1 (length (acts_of_painter (plan_of session 0) p))) (sym first)
-        (numbers_are 1 rs ∙ ap (range_with_len 1) (count ∙ ap length are));
+          subst (λ p. numbers_of_painter p (entries_from 1 rs) ≡ range_with_len 1 (length (acts_of_painter (plan_of session 0) p))) (sym first)
+          (numbers_are 1 rs ∙ ap (range_with_len 1) (count ∙ ap length are));
     }) where
-  painter_there : (plan : ShiftPlan) (acts : List Act) → acts ≡ acts_of_painter plan 0 → 0 < length acts → 0 < length plan.painters
-  painter_there plan acts are some = within plan.painters acts are some where
-    within : (lists : List (List Act)) (acts : List Act) → acts ≡ get_or lists 0 [] → 0 < length acts → 0 < length lists
-    within [] acts are some = absurd (omega (arith, ap length are))
-    within (l ∷ lists) acts are some = omega arith
+      painter_there : (plan : ShiftPlan) (acts : List Act) → acts ≡ acts_of_painter plan 0 → 0 < length acts → 0 < length plan.painters
+      painter_there plan acts are some = within plan.painters acts are some where
+        within : (lists : List (List Act)) (acts : List Act) → acts ≡ get_or lists 0 [] → 0 < length acts → 0 < length lists
+        within [] acts are some = absurd (omega (arith, ap length are))
+        within (l ∷ lists) acts are some = omega arith
 merged session acts entries alone are were (suc shift) h = absurd (omega arith)
 
 woven_by : (session : Session) (entries : List Entry) (acts : List Act) (paper newest : PaperCells) (version : ℕ) (repeats : List Repeat) → acts ≡ acts_of_painter (plan_of session 0) 0
@@ -135,13 +135,13 @@ woven_by session entries acts paper newest version repeats are were desk wove =
     subst (λ (l : List Repeat). IsLoomLog session entries 1 0 l) (sym wove) (record {
       shifts = subst (λ (l : List ℕ). AreBefore l 1) (sym (map-replicate (λ (woven : Repeat). woven.shift) n one)) (equal_before n 0 1 (omega arith));
       counts = λ shift h. let first : shift ≡ 0 = omega arith in
-        subst (λ s. count_by (λ (woven : Repeat). woven.shift == s) (replicate n one) ≡ slice_index (plan_of session s).repeats 0) (sym first) (count_equal n one refl);
+          subst (λ s. count_by (λ (woven : Repeat). woven.shift == s) (replicate n one) ≡ slice_index (plan_of session s).repeats 0) (sym first) (count_equal n one refl);
       versions_rise = subst (λ (l : List ℕ). IsNonDecreasing l) (sym (map-replicate (λ (woven : Repeat). woven.version) n one)) (equal_rise n version);
       current = All-replicate (IsCurrent entries) n one (record {
         no_older = let none : accepted_before 0 entries ≡ 0 = ap (accepted_before 0) were ∙ accepted_none 1 rs in omega arith;
         no_newer = let all : accepted_before 1 entries ≡ count_by is_accepted rs = ap (accepted_before 1) were ∙ accepted_all 1 rs in
-          let is : version ≡ count_by is_accepted rs = version_counts session.opening paper newest acts version desk in
-          let e : accepted_before (0 + 1) entries ≡ accepted_before 1 entries = refl in omega (arith, e);
+            let is : version ≡ count_by is_accepted rs = version_counts session.opening paper newest acts version desk in
+            let e : accepted_before (0 + 1) entries ≡ accepted_before 1 entries = refl in omega (arith, e);
       });
       woven = All-replicate (IsWoven session.design session.show_rows (versions session.opening (map (named_act session) entries))) n one (record {
         paper = newest;
@@ -150,11 +150,11 @@ woven_by session entries acts paper newest version repeats are were desk wove =
         rows = refl;
       });
     }) where
-  count_equal : (n : ℕ) (one : Repeat) → one.shift ≡ 0 → count_by (λ (woven : Repeat). woven.shift == 0) (replicate n one) ≡ n
-  count_equal zero one is = refl
-  count_equal (suc n) one is =
-    sum_by-append (λ (woven : Repeat). cond (woven.shift == 0) 1 0) (one ∷ []) (replicate n one)
-    ∙ ap (λ k. 0 + cond (k == 0) 1 0 + count_by (λ (woven : Repeat). woven.shift == 0) (replicate n one)) is ∙ ap (λ m. 1 + m) (count_equal n one is) ∙ (let e : 1 + n ≡ suc n = omega arith in e)
+      count_equal : (n : ℕ) (one : Repeat) → one.shift ≡ 0 → count_by (λ (woven : Repeat). woven.shift == 0) (replicate n one) ≡ n
+      count_equal zero one is = refl
+      count_equal (suc n) one is =
+          sum_by-append (λ (woven : Repeat). cond (woven.shift == 0) 1 0) (one ∷ []) (replicate n one)
+          ∙ ap (λ k. 0 + cond (k == 0) 1 0 + count_by (λ (woven : Repeat). woven.shift == 0) (replicate n one)) is ∙ ap (λ m. 1 + m) (count_equal n one is) ∙ (let e : 1 + n ≡ suc n = omega arith in e)
 
 pub legal_alone : (session : Session) (entries : List Entry) (acts : List Act) (paper newest : PaperCells) (version : ℕ) (repeats : List Repeat) → RunsAlone session
     → acts ≡ acts_of_painter (plan_of session 0) 0 → entries ≡ entries_from 1 (history session.opening acts).replies → IsDesk (history session.opening acts) paper newest version
@@ -168,7 +168,7 @@ legal_alone session entries acts paper newest version repeats alone are were des
       replied = ap (map (λ (entry : Entry). entry.reply)) were ∙ replies_are 1 rs ∙ ap (λ (l : List Act). replies session.opening l) (sym (named_all session acts entries are were));
       looms = sym alone.looms;
       repeats = λ loom below. let first : loom ≡ 0 = omega (arith, alone.looms) in
-        subst (λ l. IsLoomLog session entries 1 l (get_or (repeats ∷ []) l [])) (sym first) (woven_by session entries acts paper newest version repeats are were desk wove);
+          subst (λ l. IsLoomLog session entries 1 l (get_or (repeats ∷ []) l [])) (sym first) (woven_by session entries acts paper newest version repeats are were desk wove);
     })
 
 -- the same, as the run leaves it
@@ -180,9 +180,9 @@ pub legal_run : (session : Session) (plan : ShiftPlan) (opening paper newest : P
 legal_run session plan opening paper newest acts entries version count repeats looms alone is opened are were desk count_is wove whole =
     subst (λ (l : List (List Repeat)). Legal session (record { entries = entries; looms = l })) (sym whole)
     (legal_alone session entries acts paper newest version repeats alone (are ∙ ap (λ (p : ShiftPlan). acts_of_painter p 0) is)
-      (were ∙ ap (λ (o : PaperCells). entries_from 1 (history o acts).replies) opened)
-      (subst (λ (o : PaperCells). IsDesk (history o acts) paper newest version) opened desk)
-      (wove ∙ ap (λ n. replicate n (repeat_of 0 version session.show_rows (drawdown session.design newest))) (count_is ∙ ap (λ (p : ShiftPlan). slice_index p.repeats 0) is)))
+    (were ∙ ap (λ (o : PaperCells). entries_from 1 (history o acts).replies) opened)
+    (subst (λ (o : PaperCells). IsDesk (history o acts) paper newest version) opened desk)
+    (wove ∙ ap (λ n. replicate n (repeat_of 0 version session.show_rows (drawdown session.design newest))) (count_is ∙ ap (λ (p : ShiftPlan). slice_index p.repeats 0) is)))
 
 -- the plan that was read
 pub plan_read : (session : Session) (shifts : List ShiftPlan) (plan : ShiftPlan) → length session.shifts ≡ 1 → shifts ≡ session.shifts → plan ≡ get_or shifts 0 plan → plan ≡ plan_of session 0

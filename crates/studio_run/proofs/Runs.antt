@@ -57,7 +57,7 @@ painted_fits design paper span inside fits = record {
   columns = fits.columns;
   picks = fits.picks;
   colours = λ column pick c p. subst (λ n. n < length design.book) (sym (cell_of-paper_by paper.columns paper.picks (after_span paper span) column pick c p))
-    (either (covers span column pick) span.colour (cell_of paper column pick) (length design.book) inside (fits.colours column pick c p));
+      (either (covers span column pick) span.colour (cell_of paper column pick) (length design.book) inside (fits.colours column pick c p));
 } where
   either : (b : Bool) (x y n : ℕ) → x < n → y < n → (if b then x else y) < n
   either true x y n h k = h
@@ -79,7 +79,7 @@ desk_after_commit h paper newest copied version desk is = record {
   painted = desk.painted;
   last = length-append h.versions (h.paper ∷ []) ∙ ap (λ n. n + 1) desk.last;
   current = slice_get_read (h.versions ++ h.paper ∷ []) (version + 1 + 1) (version + 1) copied (sym (length-append h.versions (h.paper ∷ []) ∙ ap (λ n. n + 1) desk.last)) (omega arith)
-    (is ∙ desk.painted ∙ sym (ap (λ n. get_or (h.versions ++ h.paper ∷ []) n copied) (sym desk.last) ∙ get_or-append_seam h.versions h.paper [] copied));
+      (is ∙ desk.painted ∙ sym (ap (λ n. get_or (h.versions ++ h.paper ∷ []) n copied) (sym desk.last) ∙ get_or-append_seam h.versions h.paper [] copied));
 }
 
 pub accepted_reply : (h : History) (paper newest : PaperCells) (version : ℕ) → IsDesk h paper newest version
@@ -107,7 +107,7 @@ entries_from-snoc : (number : ℕ) (replies : List Reply) (reply : Reply)
 entries_from-snoc number [] reply = ap (λ (n : ℕ). record { shift = 0; painter = 0; number = n; reply = reply } ∷ []) (let e : number ≡ number + 0 = omega arith in e)
 entries_from-snoc number (r ∷ replies) reply =
     ap (λ es. record { shift = 0; painter = 0; number = number; reply = r } ∷ es) (entries_from-snoc (number + 1) replies reply
-      ∙ ap (λ (n : ℕ). entries_from (number + 1) replies ++ record { shift = 0; painter = 0; number = n; reply = reply } ∷ []) (let e : number + 1 + length replies ≡ number + suc (length replies) = omega arith in e))
+    ∙ ap (λ (n : ℕ). entries_from (number + 1) replies ++ record { shift = 0; painter = 0; number = n; reply = reply } ∷ []) (let e : number + 1 + length replies ≡ number + suc (length replies) = omega arith in e))
 
 -- the entries of one act more
 pub entries_more : (opening : PaperCells) (acts : List Act) (k : ℕ) (d : Act) (reply : Reply) (before now : List Entry) → k < length acts

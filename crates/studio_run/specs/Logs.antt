@@ -30,7 +30,7 @@ numbers_of_painter painter entries = map (λ entry. entry.number) (filter (λ en
 pub record Merge (plan : ShiftPlan) (entries : List Entry) : Type 0 where
   pub painters : All (λ entry. entry.painter < length plan.painters) entries
   pub numbers : (painter : ℕ) → painter < length plan.painters
-    → numbers_of_painter painter entries ≡ range_with_len 1 (length (acts_of_painter plan painter))
+      → numbers_of_painter painter entries ≡ range_with_len 1 (length (acts_of_painter plan painter))
 
 -- the shift numbers never fall, and are below k
 pub record AreBefore (shifts : List ℕ) (k : ℕ) : Type 0 where

@@ -12,7 +12,7 @@ ghost use Rattle.studio_run.specs.Answers.{cause_of as cause_of_refusal, file_li
 
 use crate::command::session_name;
 use crate::fault_line::fault_line;
-use crate::report_text::{report, Cause};
+use crate::report_text::{Cause, report};
 use crate::session_file::{Session, SessionRefusal};
 use crate::shift_run::run;
 use crate::version_journal::RunLog;
@@ -112,14 +112,14 @@ fn cause_of(refusal: SessionRefusal) -> Cause
 fn weave<H: Shelf, K: Sink>(alloc: Global, words: &[String], shelf: &mut H, out: &mut K) -> Outcome
     ensures files { H.files shelf.new ≡ H.files shelf.old }
     ensures caused { IsCaused (texts words.now) (record {
-        files = H.files shelf.old;
-        reads_before = H.read_faults shelf.old;
-        reads_now = H.read_faults shelf.new;
-        failed_name = H.failed_name shelf.new;
-        faults_before = K.faults out.old;
-        faults_now = K.faults out.new;
-        taken_before = K.taken out.old;
-        taken_now = K.taken out.new;
+      files = H.files shelf.old;
+      reads_before = H.read_faults shelf.old;
+      reads_now = H.read_faults shelf.new;
+      failed_name = H.failed_name shelf.new;
+      faults_before = K.faults out.old;
+      faults_now = K.faults out.new;
+      taken_before = K.taken out.old;
+      taken_now = K.taken out.new;
     }) result.run_log result.cause }
 {
     let Some(name) = session_name(words) else {

@@ -19,7 +19,14 @@ use sha2::{Digest, Sha256};
 use std::alloc::Global;
 
 /// The repeats of a shift that a loom weaves from one version of the paper.
-pub fn weave_repeats(alloc: Global, session: &Session, paper: &Paper, version: u32, shift: u32, count: u32) -> Result<Listed<Repeat>, OutOfMemory>
+pub fn weave_repeats(
+    alloc: Global,
+    session: &Session,
+    paper: &Paper,
+    version: u32,
+    shift: u32,
+    count: u32,
+) -> Result<Listed<Repeat>, OutOfMemory>
     requires fits { Fits session.now.design }
     requires paper { IsPaperOf session.now.design paper.now }
     ensures { IfOk result (λ repeats. repeats

@@ -54,7 +54,12 @@ fn first_acts(plan: &ShiftPlan) -> &[Act]
 }
 
 // Does the acts of painter 0 in shift 0.
-fn do_acts(alloc: Global, design: &Design, desk: &mut Desk, acts: &[Act]) -> Result<Listed<Entry>, OutOfMemory>
+fn do_acts(
+    alloc: Global,
+    design: &Design,
+    desk: &mut Desk,
+    acts: &[Act],
+) -> Result<Listed<Entry>, OutOfMemory>
     requires acts { All (IsActOf design.now) acts.now }
     requires few { length acts.now ≤ 65536 }
     requires paper { IsPaperOf design.now desk.old.paper }

@@ -8,9 +8,11 @@ use mill_io::memory_sink::MemorySink;
 use std::alloc::{AllocError, Global};
 use std::test::Fail;
 
-const PLAIN: &[u8] = b"format = 1\nshow = \"rows\"\n[design]\ncolumns = 2\npicks = 2\nweft_limit = 1\nwarp_limit = 1\nopening = 0\n[[colour]]\nweave = \"plain\"\n[[shift]]\nrepeats = [1]\n";
+const PLAIN: &[u8] =
+    b"format = 1\nshow = \"rows\"\n[design]\ncolumns = 2\npicks = 2\nweft_limit = 1\nwarp_limit = 1\nopening = 0\n[[colour]]\nweave = \"plain\"\n[[shift]]\nrepeats = [1]\n";
 
-const PLAIN_REPORT: &[u8] = b"studio 1\ndesign columns 2 picks 2 ends 2 hooks 2\nshift 0\nloom 0 repeat 0 version 0 sha256 607b306244cab5c6e8670d7525e1af04304b5d2c3a8a1ad791cb01de20e22117\nrow 0 #.\nrow 1 .#\nend versions 0\n";
+const PLAIN_REPORT: &[u8] =
+    b"studio 1\ndesign columns 2 picks 2 ends 2 hooks 2\nshift 0\nloom 0 repeat 0 version 0 sha256 607b306244cab5c6e8670d7525e1af04304b5d2c3a8a1ad791cb01de20e22117\nrow 0 #.\nrow 1 .#\nend versions 0\n";
 
 // What the top call left.
 #[derive(Drop)]
@@ -30,7 +32,13 @@ fn words_of(alloc: Global, texts: &[&str]) -> Result<Vec<String>, AllocError> {
 }
 
 // Runs the words over a shelf with one file, with the failing calls of the two sinks.
-fn run(alloc: Global, texts: &[&str], file: &[u8], out_fails: Vec<Failing>, err_fails: Vec<Failing>) -> Result<Left, OutOfMemory> {
+fn run(
+    alloc: Global,
+    texts: &[&str],
+    file: &[u8],
+    out_fails: Vec<Failing>,
+    err_fails: Vec<Failing>,
+) -> Result<Left, OutOfMemory> {
     let words = words_of(alloc, texts)?;
     let mut shelf = MemoryShelf::new(alloc, Vec::new(alloc));
     shelf.add("S1", file)?;
@@ -46,7 +54,13 @@ fn run(alloc: Global, texts: &[&str], file: &[u8], out_fails: Vec<Failing>, err_
 }
 
 fn weave(alloc: Global, file: &[u8]) -> Result<Left, OutOfMemory> {
-    run(alloc, &["weave", "S1"], file, Vec::new(alloc), Vec::new(alloc))
+    run(
+        alloc,
+        &["weave", "S1"],
+        file,
+        Vec::new(alloc),
+        Vec::new(alloc),
+    )
 }
 
 #[test]
@@ -62,13 +76,23 @@ fn the_smallest_cloth_is_reported(rt: HostRuntime) -> Result<(), Fail> {
 #[test]
 fn words_that_are_no_command_are_refused(rt: HostRuntime) -> Result<(), Fail> {
     let alloc = rt.alloc();
-    let cases: [&[&str]; 6] = [&[], &["weave"], &["wave", "S1"], &["weave", "S1", "S1"], &["weave", ""], &["--help"]];
+    let cases: [&[&str]; 6] = [
+        &[],
+        &["weave"],
+        &["wave", "S1"],
+        &["weave", "S1", "S1"],
+        &["weave", ""],
+        &["--help"],
+    ];
     for words in cases {
         let left = run(alloc, words, PLAIN, Vec::new(alloc), Vec::new(alloc))?;
         assert_eq!(rt; left.status, 1);
         assert!(rt; !left.has_log);
         assert_eq!(rt; left.out.taken(), b"".as_slice());
-        assert_eq!(rt; left.err.taken(), b"studio: usage: weave SESSION, check SESSION, draw SESSION OUT, paper SESSION OUT, cards SESSION OUT, cards SESSION OUT down, lift SESSION CHAIN OUT, trial N\n".as_slice());
+        assert_eq!(rt;
+            left.err.taken(),
+            b"studio: usage: weave SESSION, check SESSION, draw SESSION OUT, paper SESSION OUT, cards SESSION OUT, cards SESSION OUT down, lift SESSION CHAIN OUT, trial N\n".as_slice()
+        );
     }
     Ok(())
 }
@@ -76,7 +100,13 @@ fn words_that_are_no_command_are_refused(rt: HostRuntime) -> Result<(), Fail> {
 #[test]
 fn a_file_that_is_not_there_is_a_read_fault(rt: HostRuntime) -> Result<(), Fail> {
     let alloc = rt.alloc();
-    let left = run(alloc, &["weave", "S2"], PLAIN, Vec::new(alloc), Vec::new(alloc))?;
+    let left = run(
+        alloc,
+        &["weave", "S2"],
+        PLAIN,
+        Vec::new(alloc),
+        Vec::new(alloc),
+    )?;
     assert_eq!(rt; left.status, 5);
     assert_eq!(rt; left.out.taken(), b"".as_slice());
     assert_eq!(rt; left.err.taken(), b"studio: cannot read S2\n".as_slice());
@@ -137,14 +167,24 @@ fn a_failing_standard_error_changes_no_status(rt: HostRuntime) -> Result<(), Fai
 }
 
 #[test]
-fn a_commit_makes_a_version_and_a_dot_of_the_same_weave_no_other_cloth(rt: HostRuntime) -> Result<(), Fail> {
-    let commit = b"format = 1\n[design]\ncolumns = 2\npicks = 2\nweft_limit = 1\nwarp_limit = 1\nopening = 0\n[[colour]]\nweave = \"plain\"\n[[shift]]\nrepeats = [1]\nacts = [[\"commit\"]]\n";
-    let dots = b"format = 1\n[design]\ncolumns = 2\npicks = 2\nweft_limit = 1\nwarp_limit = 1\nopening = 0\n[[colour]]\nweave = \"plain\"\n[[colour]]\nweave = \"plain\"\n[[shift]]\nrepeats = [1]\nacts = [[\"commit\", \"dot 1 1 0\", \"commit\"]]\n";
+fn a_commit_makes_a_version_and_a_dot_of_the_same_weave_no_other_cloth(
+    rt: HostRuntime,
+) -> Result<(), Fail> {
+    let commit =
+        b"format = 1\n[design]\ncolumns = 2\npicks = 2\nweft_limit = 1\nwarp_limit = 1\nopening = 0\n[[colour]]\nweave = \"plain\"\n[[shift]]\nrepeats = [1]\nacts = [[\"commit\"]]\n";
+    let dots =
+        b"format = 1\n[design]\ncolumns = 2\npicks = 2\nweft_limit = 1\nwarp_limit = 1\nopening = 0\n[[colour]]\nweave = \"plain\"\n[[colour]]\nweave = \"plain\"\n[[shift]]\nrepeats = [1]\nacts = [[\"commit\", \"dot 1 1 0\", \"commit\"]]\n";
     let first = weave(rt.alloc(), commit)?;
     let second = weave(rt.alloc(), dots)?;
     assert_eq!(rt; first.status, 0);
     assert_eq!(rt; second.status, 0);
-    assert_eq!(rt; first.out.taken(), b"studio 1\ndesign columns 2 picks 2 ends 2 hooks 2\nshift 0\nact 0 painter 0 number 1 accepted 1\nloom 0 repeat 0 version 1 sha256 607b306244cab5c6e8670d7525e1af04304b5d2c3a8a1ad791cb01de20e22117\nend versions 1\n".as_slice());
-    assert_eq!(rt; second.out.taken(), b"studio 1\ndesign columns 2 picks 2 ends 2 hooks 2\nshift 0\nact 0 painter 0 number 1 accepted 1\nact 1 painter 0 number 2 paint\nact 2 painter 0 number 3 accepted 2\nloom 0 repeat 0 version 2 sha256 607b306244cab5c6e8670d7525e1af04304b5d2c3a8a1ad791cb01de20e22117\nend versions 2\n".as_slice());
+    assert_eq!(rt;
+        first.out.taken(),
+        b"studio 1\ndesign columns 2 picks 2 ends 2 hooks 2\nshift 0\nact 0 painter 0 number 1 accepted 1\nloom 0 repeat 0 version 1 sha256 607b306244cab5c6e8670d7525e1af04304b5d2c3a8a1ad791cb01de20e22117\nend versions 1\n".as_slice()
+    );
+    assert_eq!(rt;
+        second.out.taken(),
+        b"studio 1\ndesign columns 2 picks 2 ends 2 hooks 2\nshift 0\nact 0 painter 0 number 1 accepted 1\nact 1 painter 0 number 2 paint\nact 2 painter 0 number 3 accepted 2\nloom 0 repeat 0 version 2 sha256 607b306244cab5c6e8670d7525e1af04304b5d2c3a8a1ad791cb01de20e22117\nend versions 2\n".as_slice()
+    );
     Ok(())
 }

@@ -15,6 +15,6 @@ pub returns-clause-hashed : goal.returns-clause-hashed
 returns-clause-hashed c message holds =
     let long = length-packed c.args.row.now in
     let read : c.as_slice.result.now ≡ packed c.args.row.now =
-      line_read c.args.bytes.now.len c.args.bytes.now.items c.pack.new.out c.as_slice.result.now (packed c.args.row.now) c.as_slice.ensures.value c.pack.ensures
-      (omega (arith, long, c.args.bytes.now.ok.0, c.requires)) in
+    line_read c.args.bytes.now.len c.args.bytes.now.items c.pack.new.out c.as_slice.result.now (packed c.args.row.now) c.as_slice.ensures.value c.pack.ensures
+    (omega (arith, long, c.args.bytes.now.ok.0, c.requires)) in
     subst (λ (bytes : List ℕ). Holds256 c.update.new.self (message ++ bytes)) read (c.update.ensures message holds)

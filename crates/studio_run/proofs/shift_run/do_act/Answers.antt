@@ -24,7 +24,8 @@ returns-in-Dot-clause-paper c =
 pub returns-in_ok-desk-in-Commit-clause-reply : goal.returns-in_ok-desk-in-Commit-clause-reply
 returns-in_ok-desk-in-Commit-clause-reply c h desk =
     let P : Act → Type 0 = λ a. IsDesk (step h a) c.args.desk.now.paper c.in_ok-desk-in-Commit.field-0 (c.args.desk.now.version + 1)
-      × ((step h a).replies ≡ h.replies ++ Accepted (c.args.desk.now.version + 1) ∷ []) in
-    subst P (sym c.in-Commit.is)
-    (desk_after_commit h c.args.desk.now.paper c.args.desk.now.newest c.in_ok-desk-in-Commit.field-0 c.args.desk.now.version desk c.in_ok-desk-in-Commit.ensures,
-      accepted_reply h c.args.desk.now.paper c.args.desk.now.newest c.args.desk.now.version desk)
+    × ((step h a).replies ≡ h.replies ++ Accepted (c.args.desk.now.version + 1) ∷ []) in
+    subst P (sym c.in-Commit.is) (
+      desk_after_commit h c.args.desk.now.paper c.args.desk.now.newest c.in_ok-desk-in-Commit.field-0 c.args.desk.now.version desk c.in_ok-desk-in-Commit.ensures,
+      accepted_reply h c.args.desk.now.paper c.args.desk.now.newest c.args.desk.now.version desk,
+    )
