@@ -6,3 +6,5 @@ pub mod cloth;
 pub mod design;
 pub mod drawdown;
 pub mod float_run;
+#[cfg(test)]
+mod tests;
