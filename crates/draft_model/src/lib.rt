@@ -1,5 +1,5 @@
-//! The rules of the cloth: a design, its raw and bound paper, and the drawdown. The functions are the plain ones: each computes its
-//! definition from scratch.
+//! The rules of the cloth: a design, its raw and bound paper, the drawdown, and what a float is. The functions are the plain ones:
+//! each computes its definition from scratch.
 #![tactic(auto)]
 
 pub mod cloth;
