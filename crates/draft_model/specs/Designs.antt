@@ -1,5 +1,5 @@
 -- Which designs and papers go together.
-use Rattle.std.specs.Prelude.{◌≡◌, ◌+◌, ◌*◌, ◌<◌, ◌≤◌, ℕ, length, All}
+use Rattle.std.specs.Prelude.{◌≡◌, ◌*◌, ◌<◌, ◌≤◌, ℕ, length, All}
 use Rattle.point_paper.specs.Papers.{PaperCells, cell_of}
 use Rattle.draft_model.specs.declared.design.Design.{Design}
 

@@ -1,4 +1,4 @@
-use Rattle.std.proofs.Common.{◌≡◌, ◌<◌, ℕ, zero, suc, true, Bool, List, [], ◌∷◌, length, get_or, nat_lt, sym, subst, arith, refl, true≢false, false, ◌+◌, ◌-◌, ◌*◌, ◌&&◌, ap}
+use Rattle.std.proofs.Common.{◌≡◌, ◌<◌, ℕ, zero, suc, true, Bool, List, [], ◌∷◌, get_or, nat_lt, sym, subst, arith, refl, true≢false, false, ◌+◌, ◌-◌, ◌*◌, ◌&&◌}
 use Rattle.std.specs.List.{list_all}
 use Rattle.point_paper.specs.Papers.{PaperCells, cell_of, image_cell}
 use Rattle.point_paper.proofs.Cells.{cell_of-paper_by}
