@@ -1,5 +1,5 @@
 -- Rows that are filled cell by cell.
-use Rattle.std.proofs.Common.{◌≡◌, ◌≢◌, ◌+◌, ◌<◌, ◌≤◌, ℕ, pos, ◌%◌, Bool, false, List, [], length, get_or, set, take, drop, ◌++◌, sym, ap, subst, ◌∙◌, Some, ⊎_elim, arith, get_or-set_same, get_or-set_other}
+use Rattle.std.proofs.Common.{◌≡◌, ◌≢◌, ◌+◌, ◌<◌, ℕ, pos, ◌%◌, Bool, false, List, [], length, get_or, set, take, drop, ◌++◌, sym, ap, subst, ◌∙◌, Some, ⊎_elim, arith, get_or-set_same, get_or-set_other}
 use Rattle.std.specs.Prelude.{All, slice_get, slice_index}
 use Rattle.std.proofs.Math.Seq.{take-append_seam}
 use Rattle.std.proofs.Math.Nat.{mod-eq_of_lt}

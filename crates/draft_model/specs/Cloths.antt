@@ -7,7 +7,7 @@ use Rattle.weave_book.specs.declared.weaves.Weave.TheVariants.{Blank}
 use Rattle.weave_book.specs.Weaves.{mark}
 use Rattle.point_paper.specs.Papers.{PaperCells, BitCells, cell_of, bit_cell, line_by}
 
--- the weave of a colour of the book
+-- the weave of a colour; no paper of a design has a colour that its book lacks, and such a colour would be blank
 abbrev pub weave_of : List Weave → ℕ → Weave
 weave_of book colour = slice_index_or book colour Blank
 
@@ -28,8 +28,9 @@ pub record ClothCells : Type 0 where
   pub ends : ℕ
   pub rows : List (List Bool)
 
--- The cloth of a bit paper under a tie, the list of its ends' columns, has the cell G (tie (e mod E), p mod P) at end e and pick p.
--- It is endless in both directions, so e and p are any whole numbers.
+-- The cloth of a bit paper of P picks under a tie, the list of the columns of its E ends: the cell at end e and pick p is the paper's
+-- in column tie (e mod E) of pick p mod P. The cloth goes on for ever in both ways, so e and p are any whole numbers, the negative
+-- ones too, and the remainders are never negative.
 abbrev pub cloth : List ℕ → BitCells → ℤ → ℤ → Bool
 cloth tie bits e p = bit_cell bits (slice_index tie (remainder e (length tie))) (remainder p (length bits.rows))
 
@@ -41,6 +42,6 @@ repeat tie bits = record { ends = length tie; rows = rows_by (length tie) (lengt
 abbrev pub IsCloth : ClothCells → Type 0
 IsCloth cloth = (pick : ℕ) → pick < length cloth.rows → length (slice_index_or cloth.rows pick []) ≡ cloth.ends
 
--- a pick of a cloth: the cells of the paper's pick at the columns of the ends
+-- a pick of a cloth by the row of the paper's pick: each end has the cell of its column
 abbrev pub tied : List ℕ → List Bool → List Bool
 tied tie row = line_by (length tie) (λ e. slice_index_or row (slice_index tie e) false)

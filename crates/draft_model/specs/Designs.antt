@@ -1,13 +1,14 @@
 -- Which designs and papers go together.
-use Rattle.std.specs.Prelude.{◌≡◌, ◌+◌, ◌*◌, ◌<◌, ◌≤◌, ℕ, length, All}
+use Rattle.std.specs.Prelude.{◌≡◌, ◌*◌, ◌<◌, ◌≤◌, ℕ, length, All}
 use Rattle.point_paper.specs.Papers.{PaperCells, cell_of}
 use Rattle.draft_model.specs.declared.design.Design.{Design}
 
--- a number from the least to the greatest
+-- the number lies from the least to the greatest, both included
 abbrev pub IsWithin : ℕ → ℕ → ℕ → Type 0
 IsWithin least number greatest = (least ≤ number) × (number ≤ greatest)
 
--- the parts of the design go together, and its numbers are within the studio's limits
+-- The book has a weave, the tie and the casting are for the paper's columns (so that each end has one of them), and the sizes, the
+-- number of cells of a repeat, the float limits and the side of a tile are within the studio's limits.
 pub record Fits (design : Design) : Type 0 where
   pub columns : IsWithin 1 design.size.columns 4096
   pub picks : IsWithin 1 design.size.picks 8192
@@ -24,7 +25,7 @@ pub record Fits (design : Design) : Type 0 where
   pub warp_back : IsWithin 1 design.warp_back 255
   pub tile : IsWithin 4 design.tile 64
 
--- the paper has the design's size and colours of its book
+-- the paper has the design's size, and each of its colours has a weave
 pub record IsPaperOf (design : Design) (paper : PaperCells) : Type 0 where
   pub columns : paper.columns ≡ design.size.columns
   pub picks : paper.picks ≡ design.size.picks

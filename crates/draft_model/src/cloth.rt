@@ -6,7 +6,8 @@ use mill_base::memory::OutOfMemory;
 use std::alloc::Global;
 use std::marker::Model;
 
-/// P rows of E bits, which contracts see as its rows from pick 0 on: a bit says whether the end is lifted at the pick.
+/// One repeat of a cloth of E ends and P picks, which contracts see as its rows from pick 0 (the bottom) on. A row has a bit for each
+/// end, from the left: whether the end is lifted at that pick.
 #[derive(Drop)]
 pub struct Cloth {
     ends: u32,
@@ -38,7 +39,7 @@ impl Cloth {
         Ok(Cloth { ends, rows })
     }
 
-    /// How many ends the cloth has.
+    /// How many ends the cloth has; each row has as many bits.
     pub fn ends(&self) -> u32
         ensures ends { result ≡ self.now.ends }
         ensures rows { IsCloth self.now }
@@ -71,6 +72,7 @@ impl Cloth {
         self.rows[pick as usize].copy_from(row);
     }
 
+    /// An equal cloth in memory of its own.
     pub fn copy(&self) -> Result<Cloth, OutOfMemory>
         ensures { IfOk result (λ c. c ≡ self.now) }
     {

@@ -19,7 +19,8 @@ use std::marker::Brand;
 use std::sync::ledger::{Blank, Ledger};
 use weave_book::book::Book;
 
-/// The bound cells of a paper.
+/// Which cells of a paper are lifted, in its columns and picks, once the binder has been over it (`raw` and `bound` cells are this
+/// project's own terms). No binder changes a cell, so a cell is lifted exactly where the weave of its colour has a mark.
 pub fn bound(alloc: Global, design: &Design, paper: &Paper) -> Result<BitPaper, OutOfMemory>
     requires fits { Fits design.now }
     requires paper { IsPaperOf design.now paper.now }
@@ -28,7 +29,7 @@ pub fn bound(alloc: Global, design: &Design, paper: &Paper) -> Result<BitPaper, 
     bound_with::<Brand>(alloc, design, paper, Blank::new(1))
 }
 
-/// The E by P cells of the cloth of a paper.
+/// The cloth of a paper, one repeat, as a weaver draws it down: each end has the bound cells of its column.
 pub fn drawdown(alloc: Global, design: &Design, paper: &Paper) -> Result<Cloth, OutOfMemory>
     requires fits { Fits design.now }
     requires paper { IsPaperOf design.now paper.now }
@@ -44,7 +45,7 @@ pub fn drawdown(alloc: Global, design: &Design, paper: &Paper) -> Result<Cloth, 
     Ok(cloth)
 }
 
-// The counter that the readings of the paper want is made here, and goes with the call.
+// The readings of the paper tick a counter of their own, which goes with the call.
 fn bound_with<L: Ledger>(
     alloc: Global,
     design: &Design,

@@ -1,8 +1,10 @@
-//! The rules of the cloth: a design, its raw and bound paper, and the drawdown. The functions are the plain ones: each computes its
-//! definition from scratch.
+//! The rules of the cloth: a design, its raw and bound paper, the drawdown, and what a float is. The functions are the plain ones:
+//! each computes its definition from scratch.
 #![tactic(auto)]
 
 pub mod cloth;
 pub mod design;
 pub mod drawdown;
 pub mod float_run;
+#[cfg(test)]
+mod tests;

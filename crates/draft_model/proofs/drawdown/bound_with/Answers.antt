@@ -1,4 +1,4 @@
-use Rattle.std.proofs.Common.{◌≡◌, ◌<◌, [], length, get_or, ap, ◌∙◌, sym, arith, length-set}
+use Rattle.std.proofs.Common.{◌<◌, [], length, get_or, ap, ◌∙◌, sym, arith, length-set}
 use Rattle.point_paper.specs.Papers.{line_by}
 use Rattle.point_paper.proofs.Cells.{length-line_by, line_is}
 use Rattle.draft_model.specs.Cloths.{raw_cell, rows_by}

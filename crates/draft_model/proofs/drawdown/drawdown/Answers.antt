@@ -2,7 +2,7 @@ use Rattle.std.proofs.Common.{◌≡◌, ◌<◌, ℕ, pos, List, [], length, ge
 use Rattle.std.specs.Prelude.{All}
 use Rattle.point_paper.specs.Papers.{PaperCells, BitCells, line_by}
 use Rattle.point_paper.proofs.Cells.{length-line_by, line_is}
-use Rattle.draft_model.specs.Cloths.{cloth, raw_cell, rows_by, tied}
+use Rattle.draft_model.specs.Cloths.{cloth, raw_cell, rows_by}
 use Rattle.draft_model.specs.Designs.{Fits, IsPaperOf}
 use Rattle.draft_model.specs.Drawdowns.{bound}
 use Rattle.draft_model.specs.declared.design.Design.{Design}

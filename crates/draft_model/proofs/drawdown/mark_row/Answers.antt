@@ -1,4 +1,4 @@
-use Rattle.std.proofs.Common.{◌≡◌, ◌<◌, length, get_or, false, sym, ap, ◌∙◌, arith, length-set, slice_index}
+use Rattle.std.proofs.Common.{◌<◌, length, get_or, false, ap, ◌∙◌, arith, length-set, slice_index}
 use Rattle.weave_book.specs.Weaves.{mark}
 use Rattle.point_paper.proofs.Cells.{line_is}
 use Rattle.draft_model.specs.Cloths.{weave_of}
