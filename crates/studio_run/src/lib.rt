@@ -3,8 +3,10 @@
 
 pub mod answer;
 pub mod command;
+mod document_parts;
 pub mod fault_line;
 pub mod loom_threads;
+mod plain_parts;
 pub mod report_text;
 pub mod session_file;
 mod session_form;

@@ -1,41 +1,31 @@
 //! The form of a session's document: which keys its tables have, and the parts of the session that they give.
 //!
 //! A call that answers None, or Ok(None), says that the document is not of the form. The form is this project's own.
-ghost use Rattle.std.specs.Prelude.{◌≡◌, ◌≤◌, ◌-◌, [], ◌∷◌, None, Some, bytes_eq, codes, length, map, replicate, option_map, option_copied, IfOk, IfSome};
-ghost use Rattle.std.specs.List.{list_all, list_any};
+ghost use Rattle.std.specs.Prelude.{◌≡◌, ◌≤◌, Some, bytes_eq, codes, map, option_map, IfOk, IfSome};
+ghost use Rattle.std.specs.List.{list_all};
 ghost use Rattle.toml.specs.View.{table_view, view};
-ghost use Rattle.toml.specs.Data.{get_member, as_str};
-ghost use Rattle.weave_book.specs.declared.weaves.Weave.TheVariants.{Plain};
 ghost use Rattle.draft_model.specs.Designs.{IsWithin};
-ghost use Rattle.harness_ties.specs.Ties.{tie_of};
-ghost use Rattle.casting_out.specs.Castings.{casting_of};
-ghost use Rattle.studio_run.specs.Sessions.{act_in, act_of_words, acts_of, colours_at, colours_of, design_keys, design_of, design_table_of, dot_of, dot_of_words, even_at, guarded, has_only, is_plain as plain_in, is_plain_colour, list_at, list_in, number_at, number_between as between, number_in, only_item, painters_of, painters_of_lists, plain_design, plain_session, repeats_of, session_keys, session_of, session_of_keys, session_of_tables, shift_keys, shift_of, shift_table_of, show_in, show_of_word, shown_of, table_of};
+ghost use Rattle.studio_run.specs.Sessions.{act_in, act_of_words, acts_of, colours_at, colours_of, design_of, design_table_of, dot_of, dot_of_words, guarded, is_plain as plain_in, is_plain_colour, painters_of, painters_of_lists, repeats_of, session_of, session_of_keys, session_of_tables, shift_of, shift_table_of, show_of_word, shown_of};
 
+use crate::document_parts::{
+    even_under, has_only_keys, items_in, items_under, number_of_value, number_under, single,
+    table_in, value_under,
+};
+use crate::plain_parts::make_session;
 use crate::session_file::{Session, ShiftPlan};
 use crate::strokes::Act;
-use casting_out::casting::Casting;
-use casting_out::fault::CastingFault;
-use draft_model::design::Design;
-use harness_ties::fault::TieFault;
-use harness_ties::tie::Tie;
 use mill_base::listed::Listed;
 use mill_base::memory::OutOfMemory;
-use mill_base::size::{Face, Size};
+use mill_base::size::Size;
 use mill_base::words::{Words, number};
-use point_paper::paper::Paper;
 use std::alloc::Global;
 use toml::{Table, Value};
-use weave_book::book::Book;
-use weave_book::weaves::Weave;
 
 /// A painter has at most so many acts.
 const MOST_ACTS: usize = 64;
 
 /// A book has at most so many colours.
 const MOST_COLOURS: usize = 4;
-
-/// The side of a design's tiles.
-const TILE: u32 = 32;
 
 /// What the table `design` states: the size of the paper, how long floats may be, and the colour of the opening paper.
 #[derive(Clone, Copy, Debug, PartialEq, Eq)]
@@ -99,117 +89,6 @@ fn read_tables(
     let session = make_session(alloc, shown, colours, &form, plan)?;
     Ok(Some(session))
 }
-
-// ---- parts of a document
-
-fn value_under<'a>(table: &'a Table, key: &str) -> Option<&'a Value>
-    ensures { option_map (λ value. view value.now) result ≡ get_member key.now (table_view table.now) }
-{
-    table.get(key)
-}
-
-fn has_only_keys(table: &Table, keys: &[&str]) -> bool
-    ensures { result ≡ has_only (map (λ key. key.now) keys.now) (table_view table.now) }
-{
-    for key in table.keys() {
-        if !is_among(keys, key.as_str()) {
-            return false;
-        }
-    }
-    true
-}
-
-fn is_among(keys: &[&str], key: &str) -> bool
-    ensures { result ≡ list_any (λ k. bytes_eq k key.now) (map (λ known. known.now) keys.now) }
-{
-    keys.contains(&key)
-}
-
-fn table_in<'a>(value: &'a Value, keys: &[&str]) -> Option<&'a Table>
-    ensures { option_map (λ table. table_view table.now) result ≡ table_of (map (λ key. key.now) keys.now) (view value.now) }
-{
-    let Some(table) = value.as_table() else {
-        return None;
-    };
-    if !has_only_keys(table, keys) {
-        return None;
-    }
-    Some(table)
-}
-
-fn items_in(value: &Value) -> Option<&[Value]>
-    ensures { option_map (λ items. map view items.now) result ≡ list_in (view value.now) }
-{
-    let Some(array) = value.as_array() else {
-        return None;
-    };
-    Some(array.as_slice())
-}
-
-fn items_under<'a>(table: &'a Table, key: &str) -> Option<&'a [Value]>
-    ensures { option_map (λ items. map view items.now) result ≡ list_at key.now (table_view table.now) }
-{
-    let Some(value) = value_under(table, key) else {
-        return None;
-    };
-    items_in(value)
-}
-
-fn single(items: &[Value]) -> Option<&Value>
-    ensures { option_map (λ value. view value.now) result ≡ only_item (map view items.now) }
-{
-    let [only] = items else {
-        return None;
-    };
-    Some(only)
-}
-
-fn number_between(least: u32, greatest: u32, number: i64) -> Option<u32>
-    ensures number { result ≡ between least greatest number }
-    ensures within { IfSome result (λ n. IsWithin least n greatest) }
-{
-    let Ok(number) = u32::try_from(number) else {
-        return None;
-    };
-    if number < least || greatest < number {
-        return None;
-    }
-    Some(number)
-}
-
-fn number_of_value(value: &Value, least: u32, greatest: u32) -> Option<u32>
-    ensures number { result ≡ number_in least greatest (view value.now) }
-    ensures within { IfSome result (λ n. IsWithin least n greatest) }
-{
-    let Some(number) = value.as_integer() else {
-        return None;
-    };
-    number_between(least, greatest, number)
-}
-
-fn number_under(table: &Table, key: &str, least: u32, greatest: u32) -> Option<u32>
-    ensures number { result ≡ number_at least greatest key.now (table_view table.now) }
-    ensures within { IfSome result (λ n. IsWithin least n greatest) }
-{
-    let Some(value) = value_under(table, key) else {
-        return None;
-    };
-    number_of_value(value, least, greatest)
-}
-
-fn even_under(table: &Table, key: &str) -> Option<u32>
-    ensures { result ≡ even_at key.now (table_view table.now) }
-{
-    let Some(number) = number_under(table, key, 2, 64) else {
-        return None;
-    };
-    if number % 2 != 0 {
-        return None;
-    }
-    Some(number)
-}
-
-// ---- the keys of the form
 
 fn read_show(value: Option<&Value>) -> Option<bool>
     ensures { result ≡ shown_of (option_map (λ v. view v.now) value.entry) }
@@ -519,91 +398,4 @@ fn read_shift(
     let mut repeats = Listed::new(alloc);
     repeats.push(count)?;
     Ok(Some(ShiftPlan { repeats, painters }))
-}
-
-// ---- the session of the parts
-
-fn plain_book(alloc: Global, colours: u32) -> Result<Book, OutOfMemory>
-    requires few { colours ≤ 4 }
-    ensures { IfOk result (λ book. book ≡ replicate colours Plain) }
-{
-    let mut book = Book::new(alloc);
-    for _ in 0..colours {
-        book.add(Weave::Plain)?;
-    }
-    Ok(book)
-}
-
-fn straight_tie(alloc: Global, columns: u32) -> Result<Tie, OutOfMemory>
-    requires columns { IsWithin 1 columns 4096 }
-    ensures { IfOk result (λ tie. tie ≡ record { columns = columns; ends = tie_of [] columns }) }
-{
-    match Tie::build(alloc, &[], columns) {
-        Ok(tie) => Ok(tie),
-        Err(fault) => match fault {
-            TieFault::OutOfMemory => Err(OutOfMemory),
-            _ => unreachable!(),
-        },
-    }
-}
-
-fn full_casting(alloc: Global, columns: u32) -> Result<Casting, OutOfMemory>
-    ensures { IfOk result (λ casting. casting ≡ casting_of columns [] columns) }
-{
-    match Casting::build(alloc, columns, &[], columns) {
-        Ok(casting) => Ok(casting),
-        Err(fault) => match fault {
-            CastingFault::OutOfMemory => Err(OutOfMemory),
-            _ => unreachable!(),
-        },
-    }
-}
-
-fn make_design(alloc: Global, colours: u32, form: &DesignForm) -> Result<Design, OutOfMemory>
-    requires few { colours ≤ 4 }
-    requires columns { IsWithin 1 form.now.size.columns 4096 }
-    ensures { IfOk result (λ design. design ≡ plain_design colours form.now) }
-{
-    let columns = form.size.columns;
-    Ok(Design {
-        size: form.size,
-        book: plain_book(alloc, colours)?,
-        tie: straight_tie(alloc, columns)?,
-        casting: full_casting(alloc, columns)?,
-        raise: Weave::Blank,
-        sink: Weave::Blank,
-        weft_face: form.weft,
-        weft_back: form.weft,
-        warp_face: form.warp,
-        warp_back: form.warp,
-        tile: TILE,
-    })
-}
-
-#[tactic(auto, unfolding(crate::specs::Sessions::plain_session))]
-fn make_session(
-    alloc: Global,
-    shown: bool,
-    colours: u32,
-    form: &DesignForm,
-    plan: ShiftPlan,
-) -> Result<Session, OutOfMemory>
-    requires few { colours ≤ 4 }
-    requires columns { IsWithin 1 form.now.size.columns 4096 }
-    ensures { IfOk result (λ session. session ≡ plain_session shown colours form.now plan) }
-{
-    let design = make_design(alloc, colours, form)?;
-    let opening = Paper::blank(alloc, form.size, form.opening)?;
-    let mut faces = Listed::new(alloc);
-    faces.push(Face::Up)?;
-    let mut shifts = Listed::new(alloc);
-    shifts.push(plan)?;
-    Ok(Session {
-        design,
-        opening,
-        looms: 1,
-        show_rows: shown,
-        faces,
-        shifts,
-    })
 }

@@ -31,13 +31,11 @@ fn read_parts(alloc: Global, parts: &[&str]) -> Result<Session, SessionRefusal> 
 
 // What the fault of a document is; its path has to be empty.
 fn fault_kind(alloc: Global, parts: &[&str]) -> Option<SessionFaultKind> {
-    let Err(SessionRefusal::Fault(fault)) = read_parts(alloc, parts) else {
-        return None;
-    };
-    if !fault.path.bytes().is_empty() {
-        return None;
+    let answer = read_parts(alloc, parts);
+    match &answer {
+        Err(SessionRefusal::Fault(fault)) if fault.path.bytes().is_empty() => Some(fault.kind),
+        _ => None,
     }
-    Some(fault.kind)
 }
 
 fn first_acts(session: &Session) -> Option<&[Act]> {
@@ -176,7 +174,8 @@ fn bytes_that_are_no_document_are_not_toml(rt: HostRuntime) -> Result<(), test::
     );
     let mut shelf = MemoryShelf::new(rt.alloc(), Vec::new(rt.alloc()));
     shelf.add("S", &[0xff])?;
-    let kind = match Session::read(rt.alloc(), &mut shelf, "S") {
+    let answer = Session::read(rt.alloc(), &mut shelf, "S");
+    let kind = match &answer {
         Err(SessionRefusal::Fault(fault)) => Some(fault.kind),
         _ => None,
     };
@@ -187,7 +186,8 @@ fn bytes_that_are_no_document_are_not_toml(rt: HostRuntime) -> Result<(), test::
 #[test]
 fn a_file_that_is_not_there_is_named(rt: HostRuntime) {
     let mut shelf = MemoryShelf::new(rt.alloc(), Vec::new(rt.alloc()));
-    let named = match Session::read(rt.alloc(), &mut shelf, "plain.toml") {
+    let answer = Session::read(rt.alloc(), &mut shelf, "plain.toml");
+    let named = match &answer {
         Err(SessionRefusal::ReadFault(name)) => name.bytes() == b"plain.toml".as_slice(),
         _ => false,
     };
@@ -199,7 +199,8 @@ fn a_file_of_one_byte_too_many_is_named(rt: HostRuntime) -> Result<(), test::Fai
     let bytes = Vec::from_elem(rt.alloc(), b'\n', 67_108_865)?;
     let mut shelf = MemoryShelf::new(rt.alloc(), Vec::new(rt.alloc()));
     shelf.add("plain.toml", &bytes)?;
-    let named = match Session::read(rt.alloc(), &mut shelf, "plain.toml") {
+    let answer = Session::read(rt.alloc(), &mut shelf, "plain.toml");
+    let named = match &answer {
         Err(SessionRefusal::TooLong(name)) => name.bytes() == b"plain.toml".as_slice(),
         _ => false,
     };

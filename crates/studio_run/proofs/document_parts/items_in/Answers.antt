@@ -1,5 +1,5 @@
 use Rattle.studio_run.proofs.Members.{items_listed}
-use Rattle.studio_run.proofs.session_form.items_in.Goals as goal
+use Rattle.studio_run.proofs.document_parts.items_in.Goals as goal
 
 pub returns : goal.returns
 returns c = items_listed _ _ _ c.in-Some.ensures c.as_slice.ensures.value

@@ -2,7 +2,7 @@ use Rattle.std.proofs.Common.{List, map, String, Global, sym, ap, ◌∙◌}
 use Rattle.std.specs.List.{list_all, list_any}
 use Rattle.std.specs.Prelude.{bytes_eq, string_bytes}
 use Rattle.studio_run.proofs.Members.{has_only-keys}
-use Rattle.studio_run.proofs.session_form.has_only_keys.Goals as goal
+use Rattle.studio_run.proofs.document_parts.has_only_keys.Goals as goal
 
 pub loop-key-init : goal.loop-key-init
 loop-key-init c =

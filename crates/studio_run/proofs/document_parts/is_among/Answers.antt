@@ -1,7 +1,7 @@
 use Rattle.std.proofs.Common.{◌≡◌, ℕ, ◌||◌, List, [], ◌∷◌, map, Bor, refl, ap, ◌∙◌}
 use Rattle.std.specs.List.{list_any}
 use Rattle.std.specs.Prelude.{bytes_eq}
-use Rattle.studio_run.proofs.session_form.is_among.Goals as goal
+use Rattle.studio_run.proofs.document_parts.is_among.Goals as goal
 
 among : (key : List ℕ) (keys : List (Bor (List ℕ))) → list_any (λ (k : Bor (List ℕ)). bytes_eq k.now key) keys ≡ list_any (λ k. bytes_eq k key) (map (λ known. known.now) keys)
 among key [] = refl

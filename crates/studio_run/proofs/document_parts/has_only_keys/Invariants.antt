@@ -3,7 +3,7 @@ use Rattle.std.specs.List.{list_all, list_any}
 use Rattle.std.specs.Prelude.{bytes_eq, string_bytes}
 use Rattle.toml.specs.View.{table_view}
 use Rattle.studio_run.specs.Sessions.{has_only}
-use Rattle.studio_run.proofs.session_form.has_only_keys.Given as goal
+use Rattle.studio_run.proofs.document_parts.has_only_keys.Given as goal
 
 abbrev pub invariant-loop-key : goal.invariant-loop-key
 invariant-loop-key l =
