@@ -106,63 +106,67 @@ fn a_document_of_another_form_is_not_built(rt: HostRuntime) {
     let odd = "[design]\ncolumns = 3\npicks = 2\nweft_limit = 1\nwarp_limit = 1\nopening = 0\n";
     let no_colour =
         "[design]\ncolumns = 2\npicks = 2\nweft_limit = 1\nwarp_limit = 1\nopening = 1\n";
-    for parts in [
-        ["", "", "", ""],
-        ["format = 2\n", DESIGN, COLOUR, SHIFT],
-        ["format = 1\nshow = \"row\"\n", DESIGN, COLOUR, SHIFT],
-        ["format = 1\nlooms = 2\n", DESIGN, COLOUR, SHIFT],
-        ["format = 1\nmotif = 1\n", DESIGN, COLOUR, SHIFT],
-        [TOP, odd, COLOUR, SHIFT],
-        [TOP, wide, COLOUR, SHIFT],
-        [TOP, no_colour, COLOUR, SHIFT],
-        [
+    for (top, second, third, last) in [
+        ("", "", "", ""),
+        ("format = 2\n", DESIGN, COLOUR, SHIFT),
+        ("format = 1\nshow = \"row\"\n", DESIGN, COLOUR, SHIFT),
+        ("format = 1\nlooms = 2\n", DESIGN, COLOUR, SHIFT),
+        ("format = 1\nmotif = 1\n", DESIGN, COLOUR, SHIFT),
+        (TOP, odd, COLOUR, SHIFT),
+        (TOP, wide, COLOUR, SHIFT),
+        (TOP, no_colour, COLOUR, SHIFT),
+        (
             TOP,
             DESIGN,
             "[[colour]]\nweave = \"twill 2 2 right\"\n",
             SHIFT,
-        ],
-        [TOP, FIVE_COLOURS, DESIGN, SHIFT],
-        [TOP, DESIGN, COLOUR, "[[shift]]\nrepeats = [17]\n"],
-        [TOP, DESIGN, COLOUR, "[[shift]]\nrepeats = [1, 1]\n"],
-        [
+        ),
+        (TOP, FIVE_COLOURS, DESIGN, SHIFT),
+        (TOP, DESIGN, COLOUR, "[[shift]]\nrepeats = [17]\n"),
+        (TOP, DESIGN, COLOUR, "[[shift]]\nrepeats = [1, 1]\n"),
+        (
             TOP,
             DESIGN,
             COLOUR,
             "[[shift]]\nrepeats = [1]\n[[shift]]\nrepeats = [1]\n",
-        ],
-        [
+        ),
+        (
             TOP,
             DESIGN,
             COLOUR,
             "[[shift]]\nrepeats = [1]\nacts = [[], []]\n",
-        ],
-        [
+        ),
+        (
             TOP,
             DESIGN,
             COLOUR,
             "[[shift]]\nrepeats = [1]\nacts = [[\"dot 0 2 0\"]]\n",
-        ],
-        [
+        ),
+        (
             TOP,
             DESIGN,
             COLOUR,
             "[[shift]]\nrepeats = [1]\nacts = [[\"dot 1 0 0\"]]\n",
-        ],
-        [
+        ),
+        (
             TOP,
             DESIGN,
             COLOUR,
             "[[shift]]\nrepeats = [1]\nacts = [[\"dot 1 0\"]]\n",
-        ],
-        [
+        ),
+        (
             TOP,
             DESIGN,
             COLOUR,
             "[[shift]]\nrepeats = [1]\nacts = [[\"commit 1\"]]\n",
-        ],
+        ),
     ] {
-        let kind = fault_kind(rt.alloc(), &parts);
-        assert_eq!(rt; kind, Some(SessionFaultKind::NotBuilt), "{parts:?}");
+        let kind = fault_kind(rt.alloc(), &[top, second, third, last]);
+        assert_eq!(rt;
+            kind,
+            Some(SessionFaultKind::NotBuilt),
+            "{top}{second}{third}{last}"
+        );
     }
 }
 
