@@ -1,14 +1,12 @@
 -- What each cause says, from what the parts of the call answered.
-use Rattle.std.proofs.Common.{◌≡◌, ℕ, List, Option, Some, None, Result, Ok, Err, IsSome, refl, sym, ap, ◌∙◌, subst}
+use Rattle.std.proofs.Common.{◌≡◌, ℕ, List, Option, Some, None, IsSome, refl, sym, ap, ◌∙◌, subst}
 use Rattle.mill_base.specs.Causes.{Rose}
-use Rattle.mill_io.specs.Files.{File}
-use Rattle.mill_io.specs.Reads.{HoldsMore}
 use Rattle.studio_run.specs.declared.report_text.Cause.{Cause}
 use Rattle.studio_run.specs.declared.answer.Outcome.{Outcome}
 use Rattle.studio_run.specs.declared.session_file.SessionRefusal.{SessionRefusal}
 use Rattle.studio_run.specs.declared.session_file.SessionRefusal.TheVariants.{Fault, ReadFault, TooLong, OutOfMemory}
 use Rattle.studio_run.specs.Commands.{session_name}
-use Rattle.studio_run.specs.Sessions.{Read, IsReadRefusal}
+use Rattle.studio_run.specs.Sessions.{IsReadRefusal}
 use Rattle.studio_run.specs.Answers.{Outside, IsCaused, cause_of}
 
 -- the end by a cause, before anything was run

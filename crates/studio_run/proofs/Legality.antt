@@ -1,6 +1,6 @@
 -- The log of one shift, one painter and one loom is legal.
-use Rattle.std.proofs.Common.{◌≡◌, ◌+◌, ◌-◌, ◌<◌, ◌≤◌, ◌==◌, ◌&&◌, nat_lt, ℕ, zero, suc, Bool, true, false, List, [], ◌∷◌, ◌++◌, Some, None, length, get_or, map, fold, take, drop, replicate, length-append, sum_by, cond, refl, sym, ap, subst, ◌∙◌, add-one, arith}
-use Rattle.std.specs.Prelude.{if◌then◌else◌, slice_get, slice_index, count_by, filter, All}
+use Rattle.std.proofs.Common.{◌≡◌, ◌+◌, ◌-◌, ◌<◌, ◌≤◌, ◌==◌, ◌&&◌, nat_lt, ℕ, zero, suc, List, [], ◌∷◌, length, get_or, map, fold, drop, replicate, length-append, cond, refl, sym, ap, subst, ◌∙◌, add-one, arith}
+use Rattle.std.specs.Prelude.{slice_get, slice_index, count_by, All}
 use Rattle.std.specs.List.{range_with_len}
 use Rattle.std.specs.List.Sorted.{IsNonDecreasing}
 use Rattle.std.proofs.Math.Seq.{drop-cons}
@@ -15,10 +15,9 @@ use Rattle.studio_run.specs.declared.strokes.Act.TheVariants.{Dot, Commit}
 use Rattle.studio_run.specs.declared.session_file.Session.{Session}
 use Rattle.studio_run.specs.declared.session_file.ShiftPlan.{ShiftPlan}
 use Rattle.studio_run.specs.declared.version_journal.Reply.{Reply}
-use Rattle.studio_run.specs.declared.version_journal.Reply.TheVariants.{Painted, Accepted, Refused}
+use Rattle.studio_run.specs.declared.version_journal.Reply.TheVariants.{Painted, Accepted}
 use Rattle.studio_run.specs.declared.version_journal.Entry.{Entry}
 use Rattle.studio_run.specs.declared.version_journal.Repeat.{Repeat}
-use Rattle.studio_run.specs.declared.version_journal.RunLog.{RunLog}
 use Rattle.studio_run.specs.Plans.{plan_of, acts_of_painter, FitsPlan, IsActOf, RunsAlone}
 use Rattle.studio_run.specs.Journals.{History, IsDesk, begun, history, replies, versions, step}
 use Rattle.studio_run.specs.Repeats.{IsWoven, repeat_of}

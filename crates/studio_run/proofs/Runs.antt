@@ -1,6 +1,6 @@
 -- Rows that are hashed, and acts that are done, one after another.
 use Rattle.std.proofs.Common.{◌≡◌, ◌+◌, ◌<◌, ◌==◌, ◌&&◌, nat_le, nat_lt, ℕ, Bool, true, false, List, [], ◌∷◌, ◌++◌, Some, None, length, get_or, map, fold, take, suc, length-take, refl, sym, ap, subst, ◌∙◌, append_assoc, append-nil, length-append, add-one, arith}
-use Rattle.std.specs.Prelude.{if◌then◌else◌, unwrap_or, slice_get}
+use Rattle.std.specs.Prelude.{if◌then◌else◌, unwrap_or}
 use Rattle.std.proofs.Math.Seq.{take-suc, get_or-append_seam}
 use Rattle.std.proofs.lemmas.Bool.Decides.{nat_tests}
 use Rattle.std.proofs.lemmas.Option.{slice_get_read}

@@ -1,5 +1,5 @@
 -- A woven repeat and its digest.
-use Rattle.std.specs.Prelude.{◌≡◌, ℕ, List, map, Option, Some, None, Bool, slice_get, if◌then◌else◌}
+use Rattle.std.specs.Prelude.{◌≡◌, ℕ, List, map, Some, None, Bool, slice_get, if◌then◌else◌}
 use Rattle.std.specs.List.{concat}
 use Rattle.mill_base.specs.Bits.{packed}
 use Rattle.sha2.specs.Sha256.{sha256}

@@ -1,4 +1,4 @@
-use Rattle.std.proofs.Common.{◌≡◌, None, refl, sym, ap, ◌∙◌}
+use Rattle.std.proofs.Common.{refl, sym, ap, ◌∙◌}
 use Rattle.studio_run.specs.declared.report_text.Cause.{Cause}
 use Rattle.studio_run.proofs.Causes.{ended_by, refusal_caused}
 use Rattle.studio_run.proofs.answer.weave.Goals as goal

@@ -1,7 +1,5 @@
-use Rattle.std.proofs.Common.{◌≡◌, length, subst, ap, ◌∙◌, sym, take, map, List, ℕ, [], arith}
-use Rattle.std.specs.List.{concat}
+use Rattle.std.proofs.Common.{subst, ◌∙◌, List, ℕ, arith}
 use Rattle.sha2.specs.Hashers.{Holds256}
-use Rattle.mill_base.specs.Bits.{packed}
 use Rattle.studio_run.proofs.Runs.{packed_more}
 use Rattle.studio_run.proofs.loom_threads.digest_of_cloth.Goals as goal
 

@@ -2,10 +2,10 @@ use Rattle.std.proofs.Common.{◌≡◌, ◌+◌, ◌++◌, ◌∷◌, [], refl,
 use Rattle.point_paper.specs.Papers.{PaperCells}
 use Rattle.draft_model.specs.Designs.{IsPaperOf}
 use Rattle.studio_run.specs.declared.strokes.Act.{Act}
-use Rattle.studio_run.specs.declared.strokes.Act.TheVariants.{Dot, Commit}
+use Rattle.studio_run.specs.declared.strokes.Act.TheVariants.{Dot}
 use Rattle.studio_run.specs.declared.version_journal.Reply.TheVariants.{Painted, Accepted}
 use Rattle.studio_run.specs.Plans.{IsActOf}
-use Rattle.studio_run.specs.Journals.{History, IsDesk, step}
+use Rattle.studio_run.specs.Journals.{IsDesk, step}
 use Rattle.studio_run.proofs.Runs.{desk_after_dot, desk_after_commit, accepted_reply, painted_fits}
 use Rattle.studio_run.proofs.shift_run.do_act.Goals as goal
 

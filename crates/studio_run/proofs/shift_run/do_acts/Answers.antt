@@ -1,6 +1,6 @@
-use Rattle.std.proofs.Common.{◌≡◌, ◌+◌, take, get_or, subst, sym, arith}
+use Rattle.std.proofs.Common.{take, subst, sym, arith}
 use Rattle.studio_run.specs.declared.strokes.Act.TheVariants.{Dot}
-use Rattle.studio_run.specs.Journals.{History, IsDesk, history, step}
+use Rattle.studio_run.specs.Journals.{History, IsDesk, history}
 use Rattle.studio_run.proofs.Runs.{history_more, entries_more}
 use Rattle.studio_run.proofs.shift_run.do_acts.Goals as goal
 
