@@ -4,8 +4,9 @@
 use mill_io::file_shelf::FileShelf;
 use mill_io::gate::OpenGate;
 use mill_io::output_sink::OutputSink;
+use std::alloc::Global;
 use std::process::ExitCode;
-use std::rt::{Clock, Env, Files};
+use std::rt::Env;
 use std::{env, io};
 use studio_run::answer::studio;
 
@@ -23,7 +24,7 @@ fn main(rt: HostRuntime) -> ExitCode {
 }
 
 // The arguments without the program's name. Arguments that cannot be had whole, as one that is no text, are no command.
-fn words<R: Env + Alloc<A = std::alloc::Global>>(rt: &R) -> io::Result<Vec<String>> {
+fn words<R: Env + Alloc<A = Global>>(rt: &R) -> io::Result<Vec<String>> {
     let mut words = Vec::new(rt.alloc());
     for word in env::args(rt)?.skip(1) {
         words.push(word)?;

@@ -14,13 +14,9 @@ use Rattle.studio_run.specs.declared.session_file.SessionRefusal.{SessionRefusal
 use Rattle.studio_run.specs.declared.session_file.SessionRefusal.TheVariants.{Fault, ReadFault as CannotRead, TooLong as HasTooMuch, OutOfMemory as NoMemory}
 use Rattle.studio_run.specs.declared.version_journal.RunLog.{RunLog}
 use Rattle.studio_run.specs.Commands.{session_name}
-use Rattle.studio_run.specs.Sessions.{SessionOf, Read}
+use Rattle.studio_run.specs.Sessions.{SessionOf, Read, file_limit}
 use Rattle.studio_run.specs.Logs.{Legal}
 use Rattle.studio_run.specs.Reports.{report}
-
--- a session file has at most so many bytes
-abbrev pub file_limit : ℕ
-file_limit = 67108864
 
 -- the words of the command line as bytes
 abbrev pub texts : List (String Global) → List (List ℕ)
@@ -85,9 +81,9 @@ pub record Outside : Type 0 where
   pub taken_before : Option (List ℕ)
   pub taken_now : Option (List ℕ)
 
--- nothing was put out, and there is no log
+-- nothing was put out and no put failed, and there is no log
 abbrev pub IsQuiet : Outside → Option RunLog → Type 0
-IsQuiet o run_log = (o.taken_now ≡ o.taken_before) × (run_log ≡ None)
+IsQuiet o run_log = (o.taken_now ≡ o.taken_before) × (o.faults_now ≡ o.faults_before) × (run_log ≡ None)
 
 -- what each cause says of the words and of this call
 abbrev pub IsCaused : List (List ℕ) → Outside → Option RunLog → Cause → Type 0
@@ -104,7 +100,7 @@ abbrev pub IsRun : SessionValue → Option (List ℕ) → Option (List ℕ) → 
 IsRun session before now faults_before faults_now run_log Done = RunOf session run_log (TookAll before now)
 IsRun session before now faults_before faults_now run_log Usage = ⊥
 IsRun session before now faults_before faults_now run_log (Session fault) = ⊥
-IsRun session before now faults_before faults_now run_log OutOfMemory = (now ≡ before) × (run_log ≡ None)
+IsRun session before now faults_before faults_now run_log OutOfMemory = (now ≡ before) × (faults_now ≡ faults_before) × (run_log ≡ None)
 IsRun session before now faults_before faults_now run_log (ReadFault name) = ⊥
 IsRun session before now faults_before faults_now run_log WriteFault = Rose faults_before faults_now × RunOf session run_log (TookPart before now)
 IsRun session before now faults_before faults_now run_log (TooLong name) = ⊥

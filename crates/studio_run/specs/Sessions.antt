@@ -258,12 +258,16 @@ abbrev pub SessionOf : List ℕ → Result Session SessionFault → Type 0
 SessionOf bytes (Ok session) = (ms : Members) × IsDocument bytes ms × (session_of ms ≡ Some session)
 SessionOf bytes (Err fault) = (fault.path ≡ []) × BreaksRule bytes fault.kind
 
+-- a session file has at most so many bytes
+abbrev pub file_limit : ℕ
+file_limit = 67108864
+
 -- the session, or the first broken rule, of the file that stands under a name: some bytes stand there, which are not too many, and
 -- denote it
 pub record Read (name : List ℕ) (files : Option (List File)) (result : Result Session SessionFault) : Type 0 where
   pub bytes : List ℕ
   pub held : Holds files name bytes
-  pub short : length bytes ≤ 67108864
+  pub short : length bytes ≤ file_limit
   pub denoted : SessionOf bytes result
 
 -- what a refusal to read the file of a name says: the first broken rule of the file, a read that failed in this call, whose name the
@@ -271,7 +275,7 @@ pub record Read (name : List ℕ) (files : Option (List File)) (result : Result 
 abbrev pub IsReadRefusal : List ℕ → Option (List File) → Type 0 → List ℕ → SessionRefusal → Type 0
 IsReadRefusal name files rose failed (Fault fault) = Read name files (Err fault)
 IsReadRefusal name files rose failed (ReadFault told) = (told ≡ name) × rose × (failed ≡ told)
-IsReadRefusal name files rose failed (TooLong told) = (told ≡ name) × HoldsMore files told 67108864
+IsReadRefusal name files rose failed (TooLong told) = (told ≡ name) × HoldsMore files told file_limit
 IsReadRefusal name files rose failed OutOfMemory = Unit {0}
 
 -- a refusal of the bytes of a file is their first broken rule, or want of memory

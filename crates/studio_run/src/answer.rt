@@ -6,9 +6,10 @@ ghost use Rattle.mill_io.specs.Reads.{HoldsMore};
 ghost use Rattle.mill_io.specs.Takes.{TookAll, TookPart};
 ghost use Rattle.studio_run.specs.declared.session_file.SessionFault.{SessionFault};
 ghost use Rattle.studio_run.specs.Commands.{session_name as session_name_of};
+ghost use Rattle.studio_run.specs.Sessions.{file_limit};
 ghost use Rattle.studio_run.specs.Faults.{line, status_of};
 ghost use Rattle.studio_run.specs.Plans.{FitsSession, RunsAlone};
-ghost use Rattle.studio_run.specs.Answers.{cause_of as cause_of_refusal, file_limit, has_run, texts, Denotes, Ran, IsGood, IsCaused, IsRun};
+ghost use Rattle.studio_run.specs.Answers.{cause_of as cause_of_refusal, has_run, texts, Denotes, Ran, IsGood, IsCaused, IsRun};
 
 use crate::command::session_name;
 use crate::fault_line::fault_line;
@@ -59,7 +60,8 @@ pub fn studio<H: Shelf, K: Sink, E: Sink, G: Gate>(
 
     // What stays.
     ensures files { H.files shelf.new ≡ H.files shelf.old }
-    ensures out { has_run result.cause ≡ false → K.taken out.new ≡ K.taken out.old }
+    ensures writes { H.write_faults shelf.new ≡ H.write_faults shelf.old }
+    ensures out { has_run result.cause ≡ false → (K.taken out.new ≡ K.taken out.old) × (K.faults out.new ≡ K.faults out.old) }
 
     // Standard error gets nothing where all was done, and else the line of the cause, or a prefix of it where its count rose.
     ensures silent { result.cause ≡ Cause.Done → (E.taken err.new ≡ E.taken err.old) × (E.faults err.new ≡ E.faults err.old) }
@@ -111,6 +113,7 @@ fn cause_of(refusal: SessionRefusal) -> Cause
 
 fn weave<H: Shelf, K: Sink>(alloc: Global, words: &[String], shelf: &mut H, out: &mut K) -> Outcome
     ensures files { H.files shelf.new ≡ H.files shelf.old }
+    ensures writes { H.write_faults shelf.new ≡ H.write_faults shelf.old }
     ensures caused { IsCaused (texts words.now) (record {
       files = H.files shelf.old;
       reads_before = H.read_faults shelf.old;
