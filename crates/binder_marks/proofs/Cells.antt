@@ -1,7 +1,7 @@
 -- The rule of a bound cell on the words of rows.
 use Rattle.std.proofs.Common.{◌≡◌, ℕ, List, Bool}
 use Rattle.mill_base.specs.Bits.{bit_of, HoldsRow}
-use Rattle.mill_base.proofs.Rows.{bit_is_cell}
+use Rattle.mill_base.proofs.lemmas.Rows.{bit_is_cell}
 use Rattle.binder_marks.specs.Bound.{bound_cell, bound_at}
 
 pub cell_of_words : (raw_words long_words raise_words sink_words : List ℕ) (raw long raise sink : List Bool)

@@ -1,6 +1,6 @@
 use Rattle.std.proofs.Common.{◌≡◌, ◌≢◌, ◌/◌, ◌<◌, ℕ, false, length, ◌∙◌, ⊎_elim, sym, subst, arith}
 use Rattle.std.proofs.lemmas.List.FromFn.{fill_by_all}
-use Rattle.mill_base.proofs.Rows.{same_or_not}
+use Rattle.mill_base.proofs.lemmas.Rows.{same_or_not}
 use Rattle.binder_marks.specs.Bound.{bound_at, bound_line}
 use Rattle.binder_marks.proofs.Cells.{cell_of_words}
 use Rattle.binder_marks.proofs.bind_line.Goals as goal

@@ -1,7 +1,7 @@
 use Rattle.std.proofs.Common.{◌≡◌, ◌++◌, length, refl, subst, sym, ap, ◌∙◌, arith, List, ℕ}
 use Rattle.sha2.specs.Hashers.{Holds256}
 use Rattle.mill_base.specs.Bits.{packed}
-use Rattle.mill_base.proofs.Packs.{length-packed}
+use Rattle.mill_base.proofs.lemmas.Packs.{length-packed}
 use Rattle.draft_model.proofs.ClothRows.{line_read}
 use Rattle.studio_run.proofs.loom_threads.hash_row.Goals as goal
 

@@ -1,0 +1,16 @@
+pub mod Belows
+pub mod Bytes
+pub mod Counts
+pub mod Digits
+pub mod Firsts
+pub mod Masks
+pub mod Packs
+pub mod Parts
+pub mod Rounds
+pub mod Rows
+pub mod Stretches
+pub mod Swaps
+pub mod Transposes
+pub mod Turns
+pub mod Unpacks
+pub mod WordBits
