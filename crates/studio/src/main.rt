@@ -5,20 +5,28 @@ use mill_io::file_shelf::FileShelf;
 use mill_io::gate::OpenGate;
 use mill_io::output_sink::OutputSink;
 use std::alloc::Global;
+use std::io::ErrorKind;
 use std::process::ExitCode;
 use std::rt::Env;
 use std::{env, io};
 use studio_run::answer::studio;
+use studio_run::fault_line::fault_line;
+use studio_run::report_text::Cause;
 
 fn main(rt: HostRuntime) -> ExitCode {
     let alloc = rt.alloc();
-    let words = match words(&rt) {
-        Ok(words) => words,
-        Err(_) => Vec::new(alloc),
-    };
+    let words = words(&rt);
     let mut shelf = FileShelf::new(&rt);
     let mut out = OutputSink::output(&rt);
     let mut err = OutputSink::errors(rt);
+    let words = match words {
+        Ok(words) => words,
+        Err(error) if error.kind() == ErrorKind::OutOfMemory => {
+            fault_line(&Cause::OutOfMemory, &mut err);
+            return ExitCode::from(Cause::OutOfMemory.status());
+        }
+        Err(_) => Vec::new(alloc),
+    };
     let answer = studio(alloc, &words, &mut shelf, &mut out, &mut err, &OpenGate);
     ExitCode::from(answer.status)
 }

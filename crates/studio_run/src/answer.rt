@@ -1,5 +1,5 @@
 //! The top call: from the words of the command line to the report.
-ghost use Rattle.std.specs.Prelude.{◌≡◌, ◌↔◌, ◌⊎◌, ℕ, List, None, Some, Err, false, is_some};
+ghost use Rattle.std.specs.Prelude.{◌≡◌, ◌≤◌, ◌↔◌, ◌⊎◌, ℕ, List, None, Some, Err, false, is_some};
 ghost use Rattle.mill_base.specs.Causes.{Rose};
 ghost use Rattle.mill_io.specs.Files.{File};
 ghost use Rattle.mill_io.specs.Reads.{HoldsMore};
@@ -63,6 +63,11 @@ pub fn studio<H: Shelf, K: Sink, E: Sink, G: Gate>(
     ensures writes { H.write_faults shelf.new ≡ H.write_faults shelf.old }
     ensures out { has_run result.cause ≡ false → (K.taken out.new ≡ K.taken out.old) × (K.faults out.new ≡ K.faults out.old) }
 
+    // No count ever falls, and at the wrong words nothing was read.
+    ensures later { (H.read_faults shelf.old ≤ H.read_faults shelf.new) × (H.write_faults shelf.old ≤ H.write_faults shelf.new)
+        × (K.faults out.old ≤ K.faults out.new) × (E.faults err.old ≤ E.faults err.new) }
+    ensures unread { result.cause ≡ Cause.Usage → (H.read_faults shelf.new ≡ H.read_faults shelf.old) × (H.failed_name shelf.new ≡ H.failed_name shelf.old) }
+
     // Standard error gets nothing where all was done, and else the line of the cause, or a prefix of it where its count rose.
     ensures silent { result.cause ≡ Cause.Done → (E.taken err.new ≡ E.taken err.old) × (E.faults err.new ≡ E.faults err.old) }
     ensures line { TookAll (E.taken err.old) (E.taken err.new) (line result.cause)
@@ -112,6 +117,8 @@ fn cause_of(refusal: SessionRefusal) -> Cause
 }
 
 fn weave<H: Shelf, K: Sink>(alloc: Global, words: &[String], shelf: &mut H, out: &mut K) -> Outcome
+    ensures later { (H.read_faults shelf.old ≤ H.read_faults shelf.new) × (K.faults out.old ≤ K.faults out.new) }
+    ensures unread { result.cause ≡ Cause.Usage → (H.read_faults shelf.new ≡ H.read_faults shelf.old) × (H.failed_name shelf.new ≡ H.failed_name shelf.old) }
     ensures files { H.files shelf.new ≡ H.files shelf.old }
     ensures writes { H.write_faults shelf.new ≡ H.write_faults shelf.old }
     ensures caused { IsCaused (texts words.now) (record {
@@ -138,7 +145,8 @@ fn weave<H: Shelf, K: Sink>(alloc: Global, words: &[String], shelf: &mut H, out:
 fn run_and_report<K: Sink>(alloc: Global, session: &Session, out: &mut K) -> Outcome
     requires fits { FitsSession session.now }
     requires alone { RunsAlone session.now }
-    ensures { IsRun session.now (K.taken out.old) (K.taken out.new) (K.faults out.old) (K.faults out.new) result.run_log result.cause }
+    ensures later { K.faults out.old ≤ K.faults out.new }
+    ensures run { IsRun session.now (K.taken out.old) (K.taken out.new) (K.faults out.old) (K.faults out.new) result.run_log result.cause }
 {
     let Ok(log) = run(alloc, session) else {
         return ended(Cause::OutOfMemory);

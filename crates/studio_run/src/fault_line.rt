@@ -1,5 +1,5 @@
 //! The line on standard error for each cause.
-ghost use Rattle.std.specs.Prelude.{◌≡◌, ◌++◌, ◌⊎◌, codes};
+ghost use Rattle.std.specs.Prelude.{◌≡◌, ◌≤◌, ◌++◌, ◌⊎◌, codes};
 ghost use Rattle.mill_base.specs.Causes.{HasCause, Rose};
 ghost use Rattle.mill_io.specs.Takes.{Took, TookAll, TookPart};
 ghost use Rattle.studio_run.specs.Faults.{line as line_of, session_text};
@@ -13,6 +13,7 @@ use mill_io::sink::Sink;
 /// Puts the line of a cause (a text of this project's own), by pieces and up to the first that fails. It takes no memory, and where all was
 /// done it puts nothing.
 pub fn fault_line<E: Sink>(cause: &Cause, err: &mut E)
+    ensures later { E.faults err.old ≤ E.faults err.new }
     ensures silent { cause.now ≡ Cause.Done → (E.taken err.new ≡ E.taken err.old) × (E.faults err.new ≡ E.faults err.old) }
     ensures line { TookAll (E.taken err.old) (E.taken err.new) (line_of cause.now)
         ⊎ (Rose (E.faults err.old) (E.faults err.new) × TookPart (E.taken err.old) (E.taken err.new) (line_of cause.now)) }
