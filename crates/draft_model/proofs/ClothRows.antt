@@ -1,32 +1,20 @@
 -- Rows that are filled cell by cell.
-use Rattle.std.proofs.Common.{◌≡◌, ◌≢◌, ◌+◌, ◌<◌, ℕ, pos, ◌%◌, Bool, false, List, [], length, get_or, set, take, drop, ◌++◌, sym, ap, subst, ◌∙◌, Some, ⊎_elim, arith, get_or-set_same, get_or-set_other}
+use Rattle.std.proofs.Common.{◌≡◌, ◌<◌, ℕ, pos, ◌%◌, Bool, false, List, [], length, get_or, take, drop, ◌++◌, sym, ap, subst, ◌∙◌, Some}
 use Rattle.std.specs.Prelude.{All, slice_get, slice_index}
 use Rattle.std.proofs.Math.Seq.{take-append_seam}
 use Rattle.std.proofs.Math.Nat.{mod-eq_of_lt}
-use Rattle.std.proofs.lemmas.Bool.{cases_eq}
 use Rattle.std.proofs.lemmas.Option.{get_or_from_slice_get}
 use Rattle.weave_book.specs.declared.weaves.Weave.{Weave}
 use Rattle.weave_book.specs.declared.weaves.Weave.TheVariants.{Blank}
 use Rattle.weave_book.specs.Weaves.{mark}
-use Rattle.point_paper.specs.Papers.{PaperCells, BitCells, cell_of, bit_row, pick_of, line_by}
-use Rattle.point_paper.proofs.Cells.{get_or-line_by, length-line_by, line_is}
+use Rattle.point_paper.specs.Papers.{PaperCells, BitCells, cell_of, bit_row, pick_of}
+use Rattle.mill_base.specs.Lines.{line_by}
+use Rattle.mill_base.proofs.lemmas.Lines.{length-line_by, get_or-line_by, line_by_alike}
 use Rattle.draft_model.specs.Cloths.{ClothCells, cloth, raw_cell, tied, weave_of}
-
--- one more place of a list has the formula's value
-pub one_more : {A : Type 0} (d : A) (xs : List A) (k : ℕ) (x : A) (cell : ℕ → A) → k < length xs → x ≡ cell k → ((j : ℕ) → j < k → get_or xs j d ≡ cell j)
-    → (j : ℕ) → j < k + 1 → get_or (set xs k x) j d ≡ cell j
-one_more d xs k x cell there is before j below = ⊎_elim
-    (λ (here : j ≡ k). subst (λ m. get_or (set xs k x) m d ≡ cell m) (sym here) (get_or-set_same xs k x d there ∙ is))
-    (λ (apart : j ≢ k). get_or-set_other xs k j x d apart ∙ before j (omega arith))
-    (cases_eq j k)
 
 -- the weave that the book gave is the colour's
 pub weave_read : (book : List Weave) (colour : ℕ) (weave : Weave) → slice_get book colour ≡ Some weave → weave ≡ weave_of book colour
 weave_read book colour weave read = sym (get_or_from_slice_get book colour weave Blank read)
-
--- a line by two formulas that agree on its cells
-pub line_by_alike : {A : Type 0} (d : A) (n : ℕ) (one other : ℕ → A) → ((k : ℕ) → k < n → one k ≡ other k) → line_by n one ≡ line_by n other
-line_by_alike d n one other same = line_is d (line_by n one) n other (length-line_by n one) (λ k h. get_or-line_by n one k d h ∙ same k h)
 
 -- what a buffer holds once a whole line was put into it
 pub line_read : (len : ℕ) (old put read line : List ℕ) → read ≡ take len (put ++ drop (length put) old) → put ≡ line → length line ≡ len → read ≡ line

@@ -1,11 +1,11 @@
 -- The cloth of a paper: what each warp end does at each pick.
 -- Columns and ends are counted from the left and picks from the bottom, all from 0.
 use Rattle.std.specs.Prelude.{◌≡◌, ◌<◌, ℕ, ℤ, pos, Bool, false, List, [], length, slice_index, slice_index_or}
-use Rattle.mill_base.specs.Lines.{remainder}
+use Rattle.mill_base.specs.Lines.{remainder, line_by}
 use Rattle.weave_book.specs.declared.weaves.Weave.{Weave}
 use Rattle.weave_book.specs.declared.weaves.Weave.TheVariants.{Blank}
 use Rattle.weave_book.specs.Weaves.{mark}
-use Rattle.point_paper.specs.Papers.{PaperCells, BitCells, cell_of, bit_cell, line_by}
+use Rattle.point_paper.specs.Papers.{PaperCells, BitCells, cell_of, bit_cell}
 
 -- the weave of a colour; no paper of a design has a colour that its book lacks, and such a colour would be blank
 abbrev pub weave_of : List Weave → ℕ → Weave

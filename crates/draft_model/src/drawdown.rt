@@ -1,6 +1,7 @@
 //! The plain functions from a paper to its cloth.
 ghost use Rattle.std.specs.Prelude.{◌≡◌, ◌<◌, ℕ, length, slice_index, IfOk, All};
-ghost use Rattle.point_paper.specs.Papers.{cell_of, line_by};
+ghost use Rattle.point_paper.specs.Papers.{cell_of};
+ghost use Rattle.mill_base.specs.Lines.{line_by};
 ghost use Rattle.weave_book.specs.Weaves.{mark};
 ghost use Rattle.draft_model.specs.Cloths.{raw_cell, weave_of, tied};
 ghost use Rattle.draft_model.specs.Designs.{Fits, IsPaperOf};

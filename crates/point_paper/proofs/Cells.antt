@@ -4,21 +4,9 @@ use Rattle.std.proofs.Math.Nat.{suc-mul, mul-le-mul_right}
 use Rattle.std.proofs.lemmas.Bool.{cases_lt}
 use Rattle.std.proofs.lemmas.List.{ext_get_or, get_or_append_left, get_or-append-add, get_or-take, get_or-drop, get_or-replicate, length-replicate, take-append-drop}
 use Rattle.std.proofs.lemmas.List.Edits.{length-between, get_or-between}
-use Rattle.std.proofs.lemmas.List.FromFn.{length-map-range_with_len, get_or-map-range_with_len}
-use Rattle.point_paper.specs.Papers.{PaperCells, HaveSameCells, IsPaper, cell_of, pick_of, column_of, line_by, colours_by, paper_by, image_cell}
-
-pub length-line_by : {A : Type 0} (n : ℕ) (cell : ℕ → A) → length (line_by n cell) ≡ n
-unfolding line_by
-length-line_by n cell = length-map-range_with_len cell 0 n
-
-pub get_or-line_by : {A : Type 0} (n : ℕ) (cell : ℕ → A) (k : ℕ) (d : A) → k < n → get_or (line_by n cell) k d ≡ cell k
-unfolding line_by
-get_or-line_by n cell k d h = get_or-map-range_with_len cell 0 n k k d h (omega arith)
-
--- a list whose values are the formula's
-pub line_is : {A : Type 0} (d : A) (xs : List A) (n : ℕ) (cell : ℕ → A) → length xs ≡ n → ((k : ℕ) → k < n → get_or xs k d ≡ cell k) → xs ≡ line_by n cell
-line_is d xs n cell long each = ext_get_or d xs (line_by n cell) (long ∙ sym (length-line_by n cell))
-    (λ k h. let below : k < n = omega arith in each k below ∙ sym (get_or-line_by n cell k d below))
+use Rattle.mill_base.proofs.lemmas.Lines.{length-line_by, get_or-line_by, line_is}
+use Rattle.point_paper.specs.Papers.{PaperCells, HaveSameCells, IsPaper, cell_of, pick_of, column_of, colours_by, paper_by, image_cell}
+use Rattle.mill_base.specs.Lines.{line_by}
 
 -- the place of a cell is among those of the picks below, or in the last one
 pub place_below : (columns picks column pick : ℕ) → column < columns → pick < picks → pick * columns + column < picks * columns

@@ -1,7 +1,7 @@
 -- Papers of colours and papers of truth values, by their cells.
 -- Columns are counted from the left and picks from the bottom, both from 0.
-use Rattle.std.specs.Prelude.{◌≡◌, ℕ, zero, suc, ◌+◌, ◌-◌, ◌*◌, ◌<◌, ◌==◌, nat_le, nat_lt, Bool, false, ◌&&◌, List, [], ◌++◌, map, length, slice_index, slice_index_or, if◌then◌else◌}
-use Rattle.std.specs.List.{range_with_len}
+use Rattle.std.specs.Prelude.{◌≡◌, ℕ, zero, suc, ◌+◌, ◌-◌, ◌*◌, ◌<◌, ◌==◌, nat_le, nat_lt, Bool, false, ◌&&◌, List, [], ◌++◌, length, slice_index, slice_index_or, if◌then◌else◌}
+use Rattle.mill_base.specs.Lines.{line_by}
 use Rattle.point_paper.specs.declared.paper.LineKind.{LineKind}
 use Rattle.point_paper.specs.declared.paper.LineKind.TheVariants.{Pick, Column}
 use Rattle.point_paper.specs.declared.paper.Span.{Span}
@@ -25,10 +25,6 @@ pub record HaveSameCells (one other : PaperCells) : Type 0 where
   pub columns : one.columns ≡ other.columns
   pub picks : one.picks ≡ other.picks
   pub cells : (column pick : ℕ) → column < one.columns → pick < one.picks → cell_of one column pick ≡ cell_of other column pick
-
--- the values of a line of n cells by the formula of its k-th cell
-unfoldable pub line_by : {A : Type 0} → ℕ → (ℕ → A) → List A
-line_by n cell = map cell (range_with_len 0 n)
 
 -- the colour numbers of a whole pick, from column 0 on
 abbrev pub pick_of : PaperCells → ℕ → List ℕ

@@ -3,8 +3,8 @@ use Rattle.std.specs.Prelude.{ℕ, ◌+◌, ◌==◌, Bool, codes, List, [], ◌
 use Rattle.std.specs.Fmt.{decimal}
 use Rattle.hex.specs.Hex.{encode_lower}
 use Rattle.mill_base.specs.declared.size.Size.{Size}
-use Rattle.mill_base.specs.declared.size.Face.{Face}
-use Rattle.mill_base.specs.declared.size.Face.TheVariants.{Up, Down}
+use Rattle.mill_base.specs.declared.face.Face.{Face}
+use Rattle.mill_base.specs.declared.face.Face.TheVariants.{Up, Down}
 use Rattle.draft_model.specs.Cloths.{ClothCells}
 use Rattle.draft_model.specs.declared.float_run.FloatRun.{FloatRun}
 use Rattle.draft_model.specs.declared.float_run.FloatKind.{FloatKind}

@@ -6,7 +6,7 @@ use Rattle.toml.specs.Data.{Data, Items, no_items, item, Members, no_members, me
 use Rattle.toml.specs.Parse.{parse_document}
 use Rattle.mill_base.specs.Words.{words_of, number_of}
 use Rattle.mill_base.specs.declared.size.Size.{Size}
-use Rattle.mill_base.specs.declared.size.Face.TheVariants.{Up}
+use Rattle.mill_base.specs.declared.face.Face.TheVariants.{Up}
 use Rattle.mill_io.specs.Files.{File}
 use Rattle.mill_io.specs.Reads.{Holds, HoldsMore}
 use Rattle.weave_book.specs.declared.weaves.Weave.TheVariants.{Blank, Plain}

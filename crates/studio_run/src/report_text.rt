@@ -36,10 +36,11 @@ use draft_model::cloth::Cloth;
 use draft_model::design::Design;
 use draft_model::float_run::{FloatKind, FloatRun};
 use mill_base::bit_row::BitRow;
+use mill_base::face::Face;
 use mill_base::listed::Listed;
 use mill_base::memory::OutOfMemory;
 use mill_base::name_text::NameText;
-use mill_base::size::{Face, Size};
+use mill_base::size::Size;
 use std::alloc::Global;
 
 /// Why the studio ends.

@@ -8,10 +8,10 @@ ghost use Rattle.studio_run.specs.Sessions.{IsFileRefusal, IsReadRefusal, Read, 
 use crate::session_form::read_session;
 use crate::strokes::Act;
 use draft_model::design::Design;
+use mill_base::face::Face;
 use mill_base::listed::Listed;
 use mill_base::memory::OutOfMemory;
 use mill_base::name_text::NameText;
-use mill_base::size::Face;
 use mill_io::shelf::{Shelf, ShelfRefusal};
 use point_paper::paper::Paper;
 use std::alloc::Global;

@@ -1,14 +1,14 @@
 -- Stretches of bits that are laid piece by piece.
 use Rattle.std.proofs.Common.{◌≡◌, ◌≢◌, ◌+◌, ◌-◌, ◌*◌, ◌/◌, ◌%◌, ◌<◌, ◌≤◌, ◌==◌, ◌||◌, ℕ, Bool, false, List, length, get_or, set, sym, ap, subst, ◌∙◌, ⊎_elim, refl, length-set, map, not, bit_or, max, arith}
 use Rattle.std.specs.Int.{bit_at}
-use Rattle.std.proofs.lemmas.Bool.{cases_lt}
+use Rattle.std.proofs.lemmas.Bool.{cases_eq, cases_lt}
 use Rattle.std.proofs.lemmas.List.{length-map, get_or-map}
 use Rattle.std.proofs.lemmas.Bool.Decides.{nat_tests}
 use Rattle.std.proofs.lemmas.Nat.Bits.{bit_at_or, bit_at-lt}
 use Rattle.mill_base.specs.Bits.{bit_of, bits_of, IsRow}
 use Rattle.mill_base.specs.Stretches.{IsLaid, AreLaid}
-use Rattle.mill_base.proofs.lemmas.Rows.{same_or_not, length-bits_of, get_or-bits_of, bits_same_there, bits_are, bit_is_cell, holds_row, length_is}
-use Rattle.mill_base.proofs.lemmas.Turns.{bit_of_set_here, bit_of_set_others}
+use Rattle.mill_base.proofs.lemmas.Rows.{length-bits_of, get_or-bits_of, bits_same_there, bits_are, bit_is_cell, holds_row, length_is}
+use Rattle.mill_base.proofs.lemmas.RotatedRows.{bit_of_set_here, bit_of_set_others}
 
 -- a piece within one word
 pub piece_laid : (words : List ℕ) (at count word : ℕ) (cell : ℕ → Bool) → at / 64 < length words → at % 64 + count ≤ 64
@@ -23,10 +23,10 @@ piece_laid words at count word cell there within below inside past = record {
       ∙ ap cell (let e : (at + i) % 64 - at % 64 ≡ i = omega arith in e);
   below = λ k h. ⊎_elim
       (λ (same : k / 64 ≡ at / 64). bit_of_set_here words (at / 64) word k there same ∙ ap (λ b. b == 1) (below (k % 64) (omega arith) ∙ ap (λ q. bit_at (get_or words q 0) (k % 64)) (sym same)))
-      (λ (away : k / 64 ≢ at / 64). bit_of_set_others words (at / 64) word k away) (same_or_not (k / 64) (at / 64));
+      (λ (away : k / 64 ≢ at / 64). bit_of_set_others words (at / 64) word k away) (cases_eq (k / 64) (at / 64));
   past = λ k h. ⊎_elim
       (λ (same : k / 64 ≡ at / 64). bit_of_set_here words (at / 64) word k there same ∙ ap (λ b. b == 1) (past (k % 64) (omega arith) (omega arith) ∙ ap (λ q. bit_at (get_or words q 0) (k % 64)) (sym same)))
-      (λ (away : k / 64 ≢ at / 64). bit_of_set_others words (at / 64) word k away) (same_or_not (k / 64) (at / 64));
+      (λ (away : k / 64 ≢ at / 64). bit_of_set_others words (at / 64) word k away) (cases_eq (k / 64) (at / 64));
 }
 
 -- nothing is laid yet

@@ -4,7 +4,7 @@ use crate::version_journal::{Entry, Repeat, Reply};
 use draft_model::cloth::Cloth;
 use draft_model::float_run::{FloatKind, FloatRun};
 use mill_base::bit_row::BitRow;
-use mill_base::size::Face;
+use mill_base::face::Face;
 use std::test;
 
 #[test]

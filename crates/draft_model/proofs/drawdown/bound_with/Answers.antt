@@ -1,8 +1,8 @@
 use Rattle.std.proofs.Common.{◌<◌, [], length, get_or, ap, ◌∙◌, sym, arith, length-set}
-use Rattle.point_paper.specs.Papers.{line_by}
-use Rattle.point_paper.proofs.Cells.{length-line_by, line_is}
+use Rattle.mill_base.specs.Lines.{line_by}
+use Rattle.mill_base.proofs.lemmas.Lines.{length-line_by, line_is, one_more}
 use Rattle.draft_model.specs.Cloths.{raw_cell, rows_by}
-use Rattle.draft_model.proofs.ClothRows.{one_more, bits_are}
+use Rattle.draft_model.proofs.ClothRows.{bits_are}
 use Rattle.draft_model.proofs.drawdown.bound_with.Goals as goal
 
 pub set_row-requires-clause-columns : goal.set_row-requires-clause-columns

@@ -1,5 +1,5 @@
 use Rattle.std.proofs.Common.{◌≡◌, ◌<◌, ℕ, [], length, get_or}
-use Rattle.point_paper.specs.Papers.{line_by}
+use Rattle.mill_base.specs.Lines.{line_by}
 use Rattle.draft_model.specs.Cloths.{raw_cell}
 use Rattle.draft_model.proofs.drawdown.bound_with.Given as goal
 

@@ -1,12 +1,13 @@
 use Rattle.std.proofs.Common.{◌≡◌, ◌<◌, ℕ, pos, List, [], length, get_or, subst, ap, ◌∙◌, sym, arith, length-set, slice_index, Bool, false, refl}
 use Rattle.std.specs.Prelude.{All}
-use Rattle.point_paper.specs.Papers.{PaperCells, BitCells, line_by}
-use Rattle.point_paper.proofs.Cells.{length-line_by, line_is}
+use Rattle.point_paper.specs.Papers.{PaperCells, BitCells}
+use Rattle.mill_base.specs.Lines.{line_by}
+use Rattle.mill_base.proofs.lemmas.Lines.{length-line_by, line_is, one_more}
 use Rattle.draft_model.specs.Cloths.{cloth, raw_cell, rows_by}
 use Rattle.draft_model.specs.Designs.{Fits, IsPaperOf}
 use Rattle.draft_model.specs.Drawdowns.{bound}
 use Rattle.draft_model.specs.declared.design.Design.{Design}
-use Rattle.draft_model.proofs.ClothRows.{one_more, cloth_is, tied_row}
+use Rattle.draft_model.proofs.ClothRows.{cloth_is, tied_row}
 use Rattle.draft_model.proofs.drawdown.drawdown.Goals as goal
 
 bound_picks : (design : Design) (paper : PaperCells) (bits : BitCells) → IsPaperOf design paper → bits ≡ bound design paper → length bits.rows ≡ design.size.picks

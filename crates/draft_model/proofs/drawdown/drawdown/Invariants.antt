@@ -1,5 +1,5 @@
 use Rattle.std.proofs.Common.{◌≡◌, ◌<◌, ℕ, pos, [], length, get_or}
-use Rattle.point_paper.specs.Papers.{line_by}
+use Rattle.mill_base.specs.Lines.{line_by}
 use Rattle.draft_model.specs.Cloths.{cloth}
 use Rattle.draft_model.specs.Drawdowns.{bound}
 use Rattle.draft_model.proofs.drawdown.drawdown.Given as goal

@@ -1,8 +1,8 @@
 use Rattle.std.proofs.Common.{◌<◌, length, get_or, false, ap, ◌∙◌, arith, length-set, slice_index}
 use Rattle.weave_book.specs.Weaves.{mark}
-use Rattle.point_paper.proofs.Cells.{line_is}
+use Rattle.mill_base.proofs.lemmas.Lines.{line_is, one_more}
 use Rattle.draft_model.specs.Cloths.{weave_of}
-use Rattle.draft_model.proofs.ClothRows.{one_more, weave_read}
+use Rattle.draft_model.proofs.ClothRows.{weave_read}
 use Rattle.draft_model.proofs.drawdown.mark_row.Goals as goal
 
 pub loop-column-preserved : goal.loop-column-preserved

@@ -1,6 +1,6 @@
 use Rattle.std.proofs.Common.{◌≡◌, length, refl, sym, ap, ◌∙◌, arith}
 use Rattle.point_paper.specs.Papers.{cell_of, pick_of}
-use Rattle.point_paper.proofs.Cells.{length-line_by}
+use Rattle.mill_base.proofs.lemmas.Lines.{length-line_by}
 use Rattle.draft_model.proofs.ClothRows.{line_read, colours_in_book, raw_read}
 use Rattle.draft_model.proofs.drawdown.raw_row.Goals as goal
 

@@ -1,5 +1,5 @@
 use Rattle.std.proofs.Common.{length, get_or, false, slice_index, arith}
-use Rattle.point_paper.proofs.Cells.{line_is}
+use Rattle.mill_base.proofs.lemmas.Lines.{line_is}
 use Rattle.draft_model.proofs.drawdown.tie_row.Goals as goal
 
 pub returns : goal.returns

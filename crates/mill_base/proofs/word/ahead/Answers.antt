@@ -2,7 +2,7 @@ use Rattle.std.proofs.Common.{◌+◌, ◌/◌, ◌%◌, ◌==◌, get_or, ap, �
 use Rattle.std.proofs.lemmas.Nat.Bits.{bit_at_above}
 use Rattle.std.proofs.Math.Facts.{Fits-lt-pow}
 use Rattle.mill_base.proofs.lemmas.WordBits.{bit_at_shr}
-use Rattle.mill_base.proofs.lemmas.Firsts.{bit_ahead}
+use Rattle.mill_base.proofs.lemmas.FirstBits.{bit_ahead}
 use Rattle.mill_base.proofs.word.ahead.Goals as goal
 
 pub returns-clause-bits : goal.returns-clause-bits

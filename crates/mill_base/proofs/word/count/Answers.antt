@@ -1,6 +1,6 @@
 use Rattle.std.proofs.Common.{◌≡◌, ◌*◌, length, ◌∙◌, arith}
 use Rattle.mill_base.proofs.lemmas.Rows.{past_row}
-use Rattle.mill_base.proofs.lemmas.Counts.{counted, counted_past, counted_few}
+use Rattle.mill_base.proofs.lemmas.BitCounts.{counted, counted_past, counted_few}
 use Rattle.mill_base.proofs.word.count.Goals as goal
 
 pub overflow_cast-result : goal.overflow_cast-result

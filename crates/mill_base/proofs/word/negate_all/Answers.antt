@@ -1,8 +1,8 @@
 use Rattle.std.proofs.Common.{◌≡◌, ◌≢◌, ◌<◌, ◌/◌, ◌%◌, ◌==◌, not, length, get_or, length-set, sym, ap, ◌∙◌, ⊎_elim, arith}
+use Rattle.std.proofs.lemmas.Bool.{cases_eq}
 use Rattle.std.specs.Int.{bit_at}
 use Rattle.std.proofs.lemmas.List.{get_or_default}
-use Rattle.mill_base.proofs.lemmas.Rows.{same_or_not}
-use Rattle.mill_base.proofs.lemmas.Turns.{bit_of_set_here, bit_of_set_others}
+use Rattle.mill_base.proofs.lemmas.RotatedRows.{bit_of_set_here, bit_of_set_others}
 use Rattle.mill_base.proofs.word.negate_all.Goals as goal
 
 pub loop-index-preserved : goal.loop-index-preserved
@@ -16,6 +16,6 @@ loop-index-preserved c =
           ∙ c.negated.ensures (k % 64) (omega arith) ∙ ap (λ w. not (bit_at w (k % 64) == 1)) word
           ∙ ap (λ q. not (bit_at (get_or c.loop-index.words.items q 0) (k % 64) == 1)) (sym same) ∙ ap not (c.loop-index.invariant.rest k (omega arith)))
           (λ (away : k / 64 ≢ c.loop-index.index). bit_of_set_others c.loop-index.words.items c.loop-index.index c.negated.result k away ∙ c.loop-index.invariant.done k (omega arith))
-          (same_or_not (k / 64) c.loop-index.index);
+          (cases_eq (k / 64) c.loop-index.index);
       rest = λ k h. bit_of_set_others c.loop-index.words.items c.loop-index.index c.negated.result k (omega arith) ∙ c.loop-index.invariant.rest k (omega arith);
     }

@@ -1,5 +1,5 @@
 use Rattle.point_paper.specs.Papers.{cell_of}
-use Rattle.point_paper.proofs.Cells.{length-line_by, get_or-line_by}
+use Rattle.mill_base.proofs.lemmas.Lines.{length-line_by, get_or-line_by}
 use Rattle.point_paper.proofs.laws.a_line_is_its_cells.Goals as goal
 
 pub returns : goal.returns

@@ -1,5 +1,5 @@
 use Rattle.std.proofs.Common.{◌++◌, ap, ◌∙◌, slice_index_or}
-use Rattle.mill_base.specs.declared.size.Face.TheVariants.{Up}
+use Rattle.mill_base.specs.declared.face.Face.TheVariants.{Up}
 use Rattle.studio_run.specs.Reports.{loom_lines}
 use Rattle.studio_run.proofs.Texts.{one_more}
 use Rattle.studio_run.proofs.report_text.push_looms.Goals as goal

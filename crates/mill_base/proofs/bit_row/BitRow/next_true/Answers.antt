@@ -2,7 +2,7 @@ use Rattle.std.proofs.Common.{◌≡◌, length, sym, refl, ap, ◌∙◌, arith
 use Rattle.std.proofs.lemmas.List.{get_or_past}
 use Rattle.mill_base.proofs.lemmas.Rows.{length_is}
 use Rattle.mill_base.proofs.lemmas.Stretches.{cell_is}
-use Rattle.mill_base.proofs.lemmas.Firsts.{first_true}
+use Rattle.mill_base.proofs.lemmas.FirstBits.{first_true}
 use Rattle.mill_base.proofs.bit_row.BitRow.next_true.Goals as goal
 
 pub returns-then-from-self-clause-none : goal.returns-then-from-self-clause-none

@@ -1,9 +1,8 @@
 -- A round of swaps in a block of words.
-use Rattle.std.proofs.Common.{◌≡◌, ◌≢◌, ◌+◌, ◌-◌, ◌*◌, ◌/◌, ◌%◌, ◌^◌, ◌<◌, ◌≤◌, ◌==◌, ℕ, Bool, true, false, cond, List, length, get_or, set, length-set, get_or-set_same, get_or-set_other, refl, sym, ap, subst, ◌⊎◌, ◌∙◌, ⊎_elim, arith}
+use Rattle.std.proofs.Common.{◌≡◌, ◌≢◌, ◌+◌, ◌-◌, ◌*◌, ◌/◌, ◌%◌, ◌^◌, ◌<◌, ◌≤◌, ◌==◌, ℕ, cond, List, length, get_or, set, length-set, get_or-set_same, get_or-set_other, refl, sym, ap, subst, ◌⊎◌, ◌∙◌, ⊎_elim, arith}
 use Rattle.std.specs.Int.{bit_at}
-use Rattle.std.proofs.lemmas.Bool.{cases_lt}
+use Rattle.std.proofs.lemmas.Bool.{cases_eq, cases_lt}
 use Rattle.std.proofs.lemmas.Nat.Bits.{bit_at-lt}
-use Rattle.mill_base.proofs.lemmas.Rows.{same_or_not}
 use Rattle.mill_base.proofs.lemmas.WordBits.{bit_at_shr, bit_at_shl_from}
 use Rattle.mill_base.specs.Swaps.{IsSwapMask, IsPairSwapped, IsRoundOf, cross}
 
@@ -75,14 +74,14 @@ one_swapped mask by row old mid new is h set before pair others =
           along mask by r old mid new (before.done r (omega arith) m)
           (others r ne (λ e. let f = ap (bit_at mask) e in omega (arith, f, turn, set, m)))
           (others (r + by) (λ e. let f = ap (bit_at mask) e in omega (arith, f, clear, set, m)) (omega arith)))
-          (same_or_not r row);
+          (cases_eq r row);
       low = λ r from m. others r (omega arith) (λ e. let f = ap (bit_at mask) e in omega (arith, f, turn, set, m)) ∙ before.low r (omega arith) m;
       high = λ r from m. others (r + by) (omega arith) (omega arith) ∙ before.high r (omega arith) m;
     }
 
 pub one_kept : (mask by row : ℕ) (old mid : List ℕ) → bit_at mask row ≢ 1 → AreSwapped mask by row old mid → AreSwapped mask by (row + 1) old mid
 one_kept mask by row old mid clear before = record {
-  done = λ r below m. ⊎_elim (λ (same : r ≡ row). absurd (clear (sym (ap (bit_at mask) same) ∙ m))) (λ (ne : r ≢ row). before.done r (omega arith) m) (same_or_not r row);
+  done = λ r below m. ⊎_elim (λ (same : r ≡ row). absurd (clear (sym (ap (bit_at mask) same) ∙ m))) (λ (ne : r ≢ row). before.done r (omega arith) m) (cases_eq r row);
   low = λ r from m. before.low r (omega arith) m;
   high = λ r from m. before.high r (omega arith) m;
 }
@@ -120,6 +119,3 @@ round_done mask by old new is all r j hr hj = ⊎_elim
           ≡ bit_at (get_or old (cond (a == b) r (cond (a == 1) (r + by) (r - by))) 0) (cond (b == a) j (cond (b == 1) (j + by) (j - by)))
       at r j a b one two = ap (λ q. bit_at (get_or old q 0) (cross mask by j r)) (cross_is mask by r j a b one two)
           ∙ ap (bit_at (get_or old (cond (a == b) r (cond (a == 1) (r + by) (r - by))) 0)) (cross_is mask by j r b a two one)
-
-pub never : (b : Bool) → b ≡ true → b ≡ false → ⊥
-never b on off = let n = ap (λ x. cond {A = ℕ} x 1 0) (sym on ∙ off) in omega (arith, n)

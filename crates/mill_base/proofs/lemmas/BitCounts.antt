@@ -4,11 +4,12 @@ use Rattle.std.specs.Int.{bit_at}
 use Rattle.std.specs.Int.RustNames.{count_ones}
 use Rattle.std.specs.Int.Count.{ones_step}
 use Rattle.std.proofs.lemmas.Bool.Decides.{nat_tests}
-use Rattle.std.proofs.lemmas.List.FromFn.{sum_by-map-range_with_len_more}
 use Rattle.std.proofs.lemmas.Nat.{ones_cat, ones-le, pow_pos, mod_below, mod-pow-add}
 use Rattle.std.proofs.lemmas.Nat.Bits.{bit_at-lt}
 use Rattle.std.proofs.Math.Nat.{mod-eq_of_lt}
 use Rattle.std.proofs.lemmas.List.Sums.{count_by-le-length}
+use Rattle.mill_base.specs.Lines.{line_by}
+use Rattle.mill_base.proofs.lemmas.Lines.{sum_by-line_by_more}
 use Rattle.mill_base.proofs.lemmas.Rows.{length-bits_of}
 use Rattle.mill_base.specs.Bits.{bit_of, bits_of}
 
@@ -16,12 +17,12 @@ abbrev pub counted : List ℕ → ℕ → ℕ
 counted words n = count_by (λ b. b) (bits_of words n)
 
 pub counted_none : (words : List ℕ) → counted words 0 ≡ 0
-unfolding bits_of
+unfolding bits_of line_by
 counted_none words = refl
 
 counted_more : (words : List ℕ) (n : ℕ) → counted words (n + 1) ≡ counted words n + cond (bit_of words n) 1 0
 unfolding bits_of
-counted_more words n = sum_by-map-range_with_len_more (λ b. cond b 1 0) (bit_of words) 0 n n (omega arith)
+counted_more words n = sum_by-line_by_more (λ b. cond b 1 0) n (bit_of words)
 
 none_of_zero : count_ones 0 ≡ 0
 none_of_zero = let h = ones-le 0 0 (omega arith) in omega arith

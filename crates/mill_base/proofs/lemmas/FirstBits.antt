@@ -1,7 +1,7 @@
 -- The first bit that is set.
-use Rattle.std.proofs.Common.{◌≡◌, ◌+◌, ◌-◌, ◌*◌, ◌/◌, ◌%◌, ◌^◌, ◌<◌, ◌≤◌, ◌==◌, ℕ, Bool, cond, true, false, List, length, get_or, sym, ap, ◌∙◌, ⊎_elim, w64, arith}
+use Rattle.std.proofs.Common.{◌≡◌, ◌+◌, ◌-◌, ◌*◌, ◌/◌, ◌%◌, ◌^◌, ◌<◌, ◌≤◌, ◌==◌, ℕ, Bool, false, List, length, get_or, sym, ap, ◌∙◌, ⊎_elim, w64, arith}
 use Rattle.std.specs.Int.{bit_at, trailing_zeros}
-use Rattle.std.proofs.lemmas.Bool.{cases_lt}
+use Rattle.std.proofs.lemmas.Bool.{both_ways, cases_lt}
 use Rattle.std.proofs.lemmas.Nat.Bits.{bit_at-zero, bit_at-trailing_zeros}
 use Rattle.std.proofs.lemmas.List.{get_or_past}
 use Rattle.mill_base.specs.Bits.{bit_of, bits_of, IsRow}
@@ -53,9 +53,7 @@ first_true words given n row from k same room is first =
     let here = sym (cell_is words given n row same room is k) ∙ first.here in
     record {
       ahead = first.ahead;
-      within = ⊎_elim (λ (h : k < length row). h) (λ (past : length row ≤ k). absurd (both_ways (sym here ∙ get_or_past row k false past))) (cases_lt k (length row));
+      within = ⊎_elim (λ (h : k < length row). h) (λ (past : length row ≤ k). absurd (both_ways (get_or row k false) (get_or_past row k false past) here)) (cases_lt k (length row));
       here = here;
       before = λ j after below. sym (cell_is words given n row same room is j) ∙ first.before j after below;
-    } where
-      both_ways : true ≡ false → ⊥
-      both_ways e = let n = ap (λ b. cond {A = ℕ} b 1 0) e in omega (arith, n)
+    }
