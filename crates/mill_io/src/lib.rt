@@ -8,6 +8,7 @@ pub mod memory_shelf;
 pub mod memory_sink;
 pub mod output_sink;
 pub mod pieces;
+mod room;
 pub mod shelf;
 pub mod sink;
 #[cfg(test)]
