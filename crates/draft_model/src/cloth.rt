@@ -1,6 +1,7 @@
 //! One repeat of a cloth.
 ghost use Rattle.std.specs.Prelude.{◌≡◌, ◌<◌, false, length, replicate, slice_set, slice_index_or, [], IfOk, All};
 
+use mill_base::bit_grid::BitGrid;
 use mill_base::bit_row::BitRow;
 use mill_base::memory::OutOfMemory;
 use std::alloc::Global;
@@ -10,19 +11,15 @@ use std::marker::Model;
 /// end, from the left: whether the end is lifted at that pick.
 #[derive(Drop)]
 pub struct Cloth {
-    ends: u32,
-    rows: Vec<BitRow>,
+    grid: BitGrid,
 }
 
 impl Model for Cloth {
-    ghost use Rattle.std.specs.Prelude.{◌≡◌, ◌^◌, ◌<◌, length};
-    ghost use Rattle.draft_model.specs.Cloths.{ClothCells, IsCloth};
+    ghost use Rattle.draft_model.specs.Cloths.{ClothCells};
 
     ghost Value = { ClothCells };
 
-    ghost view = { λ c. record { ends = c.ends; rows = c.rows.items } };
-
-    ghost invariant = { λ c. (length c.rows.items < 2 ^ 32) × IsCloth (record { ends = c.ends; rows = c.rows.items }) };
+    ghost view = { λ c. record { ends = c.grid.width; rows = c.grid.rows } };
 }
 
 impl Cloth {
@@ -32,11 +29,8 @@ impl Cloth {
     pub fn blank(alloc: Global, ends: u32, picks: u32) -> Result<Cloth, OutOfMemory>
         ensures { IfOk result (λ c. c ≡ record { ends = ends; rows = replicate picks (replicate ends false) }) }
     {
-        let mut rows = Vec::with_capacity(alloc, picks as usize)?;
-        for _ in 0..picks {
-            rows.push(BitRow::new(alloc, ends)?)?;
-        }
-        Ok(Cloth { ends, rows })
+        let grid = BitGrid::new(alloc, ends, picks)?;
+        Ok(Cloth { grid })
     }
 
     /// How many ends the cloth has; each row has as many bits.
@@ -44,14 +38,14 @@ impl Cloth {
         ensures ends { result ≡ self.now.ends }
         ensures rows { IsCloth self.now }
     {
-        self.ends
+        self.grid.width()
     }
 
     /// How many picks the cloth has.
     pub fn picks(&self) -> u32
         ensures { result ≡ length self.now.rows }
     {
-        self.rows.len() as u32
+        self.grid.height()
     }
 
     /// The row of a pick, end 0 first.
@@ -60,7 +54,7 @@ impl Cloth {
         ensures row { result.now ≡ slice_index_or self.now.rows pick [] }
         ensures ends { length result.now ≡ self.now.ends }
     {
-        &self.rows[pick as usize]
+        self.grid.row(pick)
     }
 
     /// Sets the row of a pick, of as many positions as there are ends, and leaves the others.
@@ -69,20 +63,14 @@ impl Cloth {
         requires ends { length row.now ≡ self.old.ends }
         ensures { self.new ≡ record self.old { rows = slice_set self.old.rows pick row.now } }
     {
-        self.rows[pick as usize].copy_from(row);
+        self.grid.set_row(pick, row);
     }
 
     /// An equal cloth in memory of its own.
     pub fn copy(&self) -> Result<Cloth, OutOfMemory>
         ensures { IfOk result (λ c. c ≡ self.now) }
     {
-        let mut rows = Vec::with_capacity(*self.rows.allocator(), self.rows.len())?;
-        for row in &self.rows {
-            rows.push(row.copy()?)?;
-        }
-        Ok(Cloth {
-            ends: self.ends,
-            rows,
-        })
+        let grid = self.grid.copy()?;
+        Ok(Cloth { grid })
     }
 }

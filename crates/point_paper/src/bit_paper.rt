@@ -2,6 +2,7 @@
 ghost use Rattle.std.specs.Prelude.{◌≡◌, ◌<◌, false, length, replicate, slice_set, IfOk};
 ghost use Rattle.point_paper.specs.Papers.{bit_cell, bit_row, IsBitPaper};
 
+use mill_base::bit_grid::BitGrid;
 use mill_base::bit_row::BitRow;
 use mill_base::memory::OutOfMemory;
 use mill_base::size::Size;
@@ -12,19 +13,15 @@ use std::marker::Model;
 /// see as its rows from the lowest pick on.
 #[derive(Drop)]
 pub struct BitPaper {
-    size: Size,
-    rows: Vec<BitRow>,
+    grid: BitGrid,
 }
 
 impl Model for BitPaper {
-    ghost use Rattle.std.specs.Prelude.{◌≡◌, length};
-    ghost use Rattle.point_paper.specs.Papers.{BitCells, IsBitPaper};
+    ghost use Rattle.point_paper.specs.Papers.{BitCells};
 
     ghost Value = { BitCells };
 
-    ghost view = { λ b. record { columns = b.size.columns; rows = b.rows.items } };
-
-    ghost invariant = { λ b. (length b.rows.items ≡ b.size.picks) × IsBitPaper (record { columns = b.size.columns; rows = b.rows.items }) };
+    ghost view = { λ b. record { columns = b.grid.width; rows = b.grid.rows } };
 }
 
 impl BitPaper {
@@ -32,11 +29,8 @@ impl BitPaper {
     pub fn new(alloc: Global, size: Size) -> Result<BitPaper, OutOfMemory>
         ensures { IfOk result (λ b. b ≡ record { columns = size.columns; rows = replicate size.picks (replicate size.columns false) }) }
     {
-        let mut rows = Vec::with_capacity(alloc, size.picks as usize)?;
-        for _ in 0..size.picks {
-            rows.push(BitRow::new(alloc, size.columns)?)?;
-        }
-        Ok(BitPaper { size, rows })
+        let grid = BitGrid::new(alloc, size.columns, size.picks)?;
+        Ok(BitPaper { grid })
     }
 
     /// How many columns and picks the paper has.
@@ -44,7 +38,10 @@ impl BitPaper {
         ensures size { result ≡ record { columns = self.now.columns; picks = length self.now.rows } }
         ensures whole { IsBitPaper self.now }
     {
-        self.size
+        Size {
+            columns: self.grid.width(),
+            picks: self.grid.height(),
+        }
     }
 
     /// The row of a pick, from column 0 on.
@@ -53,7 +50,7 @@ impl BitPaper {
         ensures row { result.now ≡ bit_row self.now pick }
         ensures columns { length result.now ≡ self.now.columns }
     {
-        &self.rows[pick as usize]
+        self.grid.row(pick)
     }
 
     /// The rows from the lowest pick on.
@@ -61,7 +58,7 @@ impl BitPaper {
         ensures rows { result.now ≡ self.now.rows }
         ensures whole { IsBitPaper self.now }
     {
-        &self.rows
+        self.grid.rows()
     }
 
     /// The truth value of the cell in a column of a pick.
@@ -70,7 +67,7 @@ impl BitPaper {
         requires pick { pick < length self.now.rows }
         ensures { result ≡ bit_cell self.now column pick }
     {
-        self.rows[pick as usize].get(column)
+        self.grid.get(column, pick)
     }
 
     /// Sets the truth value of the cell in a column of a pick. All other cells stay.
@@ -79,7 +76,7 @@ impl BitPaper {
         requires pick { pick < length self.old.rows }
         ensures { self.new ≡ record self.old { rows = slice_set self.old.rows pick (slice_set (bit_row self.old pick) column value) } }
     {
-        self.rows[pick as usize].set(column, value);
+        self.grid.set(column, pick, value);
     }
 
     /// Takes over a whole row of as many columns. All other rows stay, and no memory is taken.
@@ -88,27 +85,14 @@ impl BitPaper {
         requires columns { length row.now ≡ self.old.columns }
         ensures { self.new ≡ record self.old { rows = slice_set self.old.rows pick row.now } }
     {
-        self.rows[pick as usize].copy_from(row);
+        self.grid.set_row(pick, row);
     }
 
     /// An equal paper in memory of its own.
     pub fn copy(&self) -> Result<BitPaper, OutOfMemory>
         ensures { IfOk result (λ b. b ≡ self.now) }
     {
-        let rows = copy_rows(*self.rows.allocator(), &self.rows)?;
-        Ok(BitPaper {
-            size: self.size,
-            rows,
-        })
+        let grid = self.grid.copy()?;
+        Ok(BitPaper { grid })
     }
-}
-
-fn copy_rows(alloc: Global, rows: &[BitRow]) -> Result<Vec<BitRow>, OutOfMemory>
-    ensures { IfOk result (λ copies. copies.items ≡ rows.now) }
-{
-    let mut copies = Vec::with_capacity(alloc, rows.len())?;
-    for row in rows {
-        copies.push(row.copy()?)?;
-    }
-    Ok(copies)
 }

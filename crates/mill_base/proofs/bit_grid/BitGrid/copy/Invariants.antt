@@ -1,5 +1,5 @@
 use Rattle.std.proofs.Common.{◌≡◌, take}
-use Rattle.draft_model.proofs.cloth.Cloth.copy.Given as goal
+use Rattle.mill_base.proofs.bit_grid.BitGrid.copy.Given as goal
 
 abbrev pub invariant-loop-row : goal.invariant-loop-row
 invariant-loop-row l = l.rows.items ≡ take l.row-index l.row-items
