@@ -1,5 +1,3 @@
-pub mod Cuts
-pub mod Filing
-pub mod Joined
 pub mod Answered
-pub mod Counts
+pub mod Filing
+pub mod lemmas

@@ -7,6 +7,7 @@ pub mod gate;
 pub mod memory_shelf;
 pub mod memory_sink;
 pub mod output_sink;
+pub mod phrases;
 pub mod pieces;
 mod room;
 pub mod shelf;

@@ -2,12 +2,6 @@
 use Rattle.std.proofs.Common.{◌≡◌, ◌≤◌, ℕ, List, Option, Result, Ok, Err, ◌⊎◌, inl, inr, sym, subst, arith}
 use Rattle.mill_base.specs.Causes.{HasCause, Rose}
 use Rattle.mill_io.specs.Takes.{Took, TookAll, TookPart}
-use Rattle.mill_io.proofs.Counts.{rose_then}
-
--- a cause that came after calls that did not let the count fall
-pub cause_then : {T E : Type 0} (before middle now : ℕ) (r : Result T E) → before ≤ middle → HasCause middle now r → HasCause before now r
-cause_then before middle now (Ok u) h cause = record { later = omega (arith, h, cause.later); failed = tt }
-cause_then before middle now (Err e) h cause = record { later = omega (arith, h, cause.later); failed = rose_then before middle now h cause.failed }
 
 -- a line was put whole, or the count rose and a part of it was put
 pub all_or_part : {T E : Type 0} (taken now : Option (List ℕ)) (before after : ℕ) (piece : List ℕ) (r : Result T E)

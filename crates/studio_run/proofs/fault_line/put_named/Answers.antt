@@ -1,6 +1,6 @@
 use Rattle.std.proofs.Common.{[], ◌∷◌, ◌++◌}
-use Rattle.mill_io.proofs.Joined.{part_of_more, took_both, took_part}
-use Rattle.studio_run.proofs.Puts.{cause_then}
+use Rattle.mill_io.proofs.lemmas.Joined.{part_of_more, took_both, took_part}
+use Rattle.mill_base.proofs.lemmas.Causes.{cause_then}
 use Rattle.studio_run.proofs.fault_line.put_named.Goals as goal
 
 pub returns-in_default-clause-taken : goal.returns-in_default-clause-taken

@@ -1,0 +1,4 @@
+pub mod Cuts
+pub mod Joined
+pub mod Listed
+pub mod Told
