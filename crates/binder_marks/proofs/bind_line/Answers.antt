@@ -1,6 +1,6 @@
 use Rattle.std.proofs.Common.{◌≡◌, ◌≢◌, ◌/◌, ◌<◌, ℕ, false, length, ◌∙◌, ⊎_elim, sym, subst, arith}
 use Rattle.std.proofs.lemmas.List.FromFn.{fill_by_all}
-use Rattle.mill_base.proofs.lemmas.Rows.{same_or_not}
+use Rattle.std.proofs.lemmas.Bool.{cases_eq}
 use Rattle.binder_marks.specs.Bound.{bound_at, bound_line}
 use Rattle.binder_marks.proofs.Cells.{cell_of_words}
 use Rattle.binder_marks.proofs.bind_line.Goals as goal
@@ -15,7 +15,7 @@ loop-at-preserved c = record {
       c.args.raw.now c.args.long.now c.args.raise.now c.args.sink.now
       c.words.ensures c.words-in-loop-at.ensures c.words-in-loop-at-2.ensures c.words-in-loop-at-3.ensures k)
       (λ (away : k / 64 ≢ c.loop-at.at). c.put_word.ensures.others k away ∙ c.loop-at.invariant.bound k (omega arith) within)
-      (same_or_not (k / 64) c.loop-at.at);
+      (cases_eq (k / 64) c.loop-at.at);
 }
 
 pub returns-clause-line : goal.returns-clause-line
