@@ -6,6 +6,7 @@ pub mod Causes
 pub mod Digits
 pub mod FirstAnswers
 pub mod FirstBits
+pub mod Grids
 pub mod Lines
 pub mod Masks
 pub mod Packs

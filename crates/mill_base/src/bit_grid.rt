@@ -1,8 +1,9 @@
 //! Rows of bits of one width.
 ghost use Rattle.std.specs.Prelude.{◌≡◌, ◌<◌, false, length, replicate, slice_set, IfOk, IsTrue, ◌↔◌};
-ghost use Rattle.mill_base.specs.Grids.{IsGrid, grid_row, grid_cell};
+ghost use Rattle.mill_base.specs.Grids.{IsGrid, grid_row, grid_cell, transposed};
 
 use crate::bit_row::BitRow;
+use crate::grid_blocks;
 use crate::memory::OutOfMemory;
 use std::alloc::Global;
 use std::marker::Model;
@@ -94,6 +95,16 @@ impl BitGrid {
         ensures { self.new ≡ record self.old { rows = slice_set self.old.rows k row.now } }
     {
         self.rows[k as usize].copy_from(row);
+    }
+
+    /// Writes the columns of this grid as the rows of another, which has a row for each column here and a column for each row here.
+    /// No memory is taken.
+    pub fn transpose_into(&self, out: &mut BitGrid)
+        requires width { out.old.width ≡ length self.now.rows }
+        requires height { length out.old.rows ≡ self.now.width }
+        ensures { out.new ≡ transposed self.now }
+    {
+        grid_blocks::turn(&self.rows, self.height(), &mut out.rows);
     }
 
     /// Whether two grids have one width and the same rows.

@@ -119,6 +119,18 @@ count_rest p n (suc m) low none = ⊎_elim
 pub count_none : (p : ℕ → Bool) (n : ℕ) → ((k : ℕ) → k < n → p k ≡ false) → count_below p n ≡ 0
 count_none p n none = count_rest p 0 n (omega arith) (λ k from below. none k below)
 
+-- where the count is 0 none passes
+pub count_zero : (p : ℕ → Bool) (n i : ℕ) → count_below p n ≡ 0 → i < n → p i ≡ false
+count_zero p zero i zero_ h = absurd (omega arith)
+count_zero p (suc n) i zero_ h = ⊎_elim
+    (λ (here : i ≡ n). ap p here ∙ no_weight (p n) (omega (arith, zero_)))
+    (λ (before : i ≢ n). count_zero p n i (omega (arith, zero_)) (omega arith))
+    (cases_eq i n)
+  where
+    no_weight : (b : Bool) → cond {A = ℕ} b 1 0 ≡ 0 → b ≡ false
+    no_weight true e = absurd (omega (arith, e))
+    no_weight false e = refl
+
 -- ---- the least number that passes
 
 pub record IsFirst (p : ℕ → Bool) (n i : ℕ) : Type 0 where

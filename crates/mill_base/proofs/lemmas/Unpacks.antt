@@ -56,10 +56,19 @@ bit_of_packed row j i h =
     ∙ ap (λ b. b == 1) (bit_of_sum (λ i. cond (get_or row (8 * j + i) false) 1 0) (λ i. one_or_none (get_or row (8 * j + i) false)) i h)
     ∙ tested (get_or row (8 * j + i) false)
 
+-- a position of a row, by its packed bytes; bits past the last position are clear
+pub packed_bit : (row : List Bool) (k : ℕ) → k < 8 * ((length row + 7) / 8) → (bit_at (get_or (packed row) (k / 8) 0) (7 - k % 8) == 1) ≡ get_or row k false
+packed_bit row k h =
+    ap (λ b. bit_at b (7 - k % 8) == 1) (get_or-packed row (k / 8) 0 (omega arith))
+    ∙ bit_of_packed row (k / 8) (k % 8) (omega arith) ∙ ap (λ p. get_or row p false) (let e : 8 * (k / 8) + k % 8 ≡ k = omega arith in e)
+
 -- what is read from a row's packed bytes is the row
 pub unpacked_is : (bytes : List ℕ) (new row : List Bool) → length row ≡ length new → ((k : ℕ) → k < length new → get_or new k false ≡ (bit_at (get_or bytes (k / 8) 0) (7 - k % 8) == 1))
     → bytes ≡ packed row → new ≡ row
 unpacked_is bytes new row long bits are = same_cells new row (sym long) (λ k h.
-    bits k h ∙ ap (λ bs. bit_at (get_or bs (k / 8) 0) (7 - k % 8) == 1) are
-    ∙ ap (λ b. bit_at b (7 - k % 8) == 1) (get_or-packed row (k / 8) 0 (omega arith))
-    ∙ bit_of_packed row (k / 8) (k % 8) (omega arith) ∙ ap (λ p. get_or row p false) (let e : 8 * (k / 8) + k % 8 ≡ k = omega arith in e))
+    bits k h ∙ ap (λ bs. bit_at (get_or bs (k / 8) 0) (7 - k % 8) == 1) are ∙ packed_bit row k (omega arith))
+
+-- rows of one length with the same packed bytes are one row
+pub same_packed : (row line : List Bool) → length row ≡ length line → packed row ≡ packed line → row ≡ line
+same_packed row line long same = unpacked_is (packed line) row line (sym long)
+    (λ k h. sym (ap (λ bs. bit_at (get_or bs (k / 8) 0) (7 - k % 8) == 1) (sym same) ∙ packed_bit row k (omega arith))) refl
