@@ -1,6 +1,7 @@
 pub mod Belows
 pub mod BitCounts
 pub mod BlockRounds
+pub mod Blocks
 pub mod Bytes
 pub mod Causes
 pub mod Digits

@@ -1,0 +1,9 @@
+use Rattle.std.proofs.Common.{◌≡◌, length}
+use Rattle.mill_base.specs.Blocks.{AreJoined}
+use Rattle.mill_base.proofs.joint.join.Given as goal
+
+abbrev pub invariant-loop-index : goal.invariant-loop-index
+invariant-loop-index g l = record {
+  long : length l.words ≡ length l.initial.words;
+  joined : AreJoined g.J.Joint.cell l.line l.initial.words l.index l.words;
+}

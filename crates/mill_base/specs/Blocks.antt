@@ -1,0 +1,31 @@
+-- Blocks of words that hold a cyclic line, and lines that are made of one.
+use Rattle.std.specs.Prelude.{◌≡◌, ℕ, ◌+◌, ◌-◌, ◌*◌, ◌/◌, ◌≤◌, ◌<◌, ◌||◌, Bool, true, false, not, List, map}
+use Rattle.std.specs.List.{range_with_len}
+use Rattle.mill_base.specs.Bits.{bit_of}
+use Rattle.mill_base.specs.declared.limits.TheConstants.{MAX_ENDS}
+
+-- the line of n cells by the formula of its k-th cell
+unfoldable pub line_by : {A : Type 0} → ℕ → (ℕ → A) → List A
+line_by n cell = map cell (range_with_len 0 n)
+
+-- two truth values are the same
+abbrev pub same : Bool → Bool → Bool
+same true b = b
+same false b = not b
+
+-- the words hold a line of n cells, which is not empty, and every bit past it is clear
+pub record IsBlock (words : List ℕ) (n : ℕ) : Type 0 where
+  pub some : 0 < n
+  pub most : n ≤ MAX_ENDS
+  pub clear : (k : ℕ) → n ≤ k → bit_of words k ≡ false
+
+-- bit by bit, the first `count` words are those of a line joined with the old ones, and the others stay
+pub record AreJoined (cell : Bool → Bool → Bool) (line old : List ℕ) (count : ℕ) (new : List ℕ) : Type 0 where
+  pub here : (k : ℕ) → k < 64 * count → bit_of new k ≡ cell (bit_of line k) (bit_of old k)
+  pub past : (k : ℕ) → 64 * count ≤ k → bit_of new k ≡ bit_of old k
+
+-- bits `behind` .. of a word's rest are joined with the first bits of a line
+pub record IsAgain (line old : List ℕ) (behind : ℕ) (new : List ℕ) : Type 0 where
+  pub below : (k : ℕ) → k < behind → bit_of new k ≡ bit_of old k
+  pub within : (k : ℕ) → behind ≤ k → k < 64 * ((behind + 63) / 64) → bit_of new k ≡ (bit_of old k || bit_of line (k - behind))
+  pub past : (k : ℕ) → 64 * ((behind + 63) / 64) ≤ k → bit_of new k ≡ bit_of old k
