@@ -4,3 +4,5 @@ pub mod Rounds
 pub mod Builds
 pub mod Columns
 pub mod Firsts
+pub mod Stretches
+pub mod Tests

@@ -1,4 +1,4 @@
 pub mod Faults
-pub mod Groups
 pub mod Sections
 pub mod Ties
+pub mod inner

@@ -6,6 +6,7 @@ mod grouping;
 mod joining;
 pub mod laws;
 pub mod section;
+mod stretch;
 #[cfg(test)]
 mod tests;
 pub mod tie;

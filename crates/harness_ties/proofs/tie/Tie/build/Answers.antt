@@ -1,7 +1,8 @@
 use Rattle.std.proofs.Common.{◌≡◌, ◌<◌, ◌≤◌, length, slice_index, All, ap, sym, subst, ◌∙◌}
 use Rattle.std.proofs.lemmas.Result.{err_from_is_err_and}
+use Rattle.mill_base.specs.declared.limits.TheConstants.{MAX_ENDS}
 use Rattle.harness_ties.specs.Ties.{IsTie, tie_of, ends_of_column}
-use Rattle.harness_ties.specs.Groups.{Parts}
+use Rattle.harness_ties.specs.inner.Groups.{Parts}
 use Rattle.harness_ties.proofs.Builds.{all_there, tie_below, tie_short, told_first, told_none, told_by_counts, each_by_counts, is_tie}
 use Rattle.harness_ties.proofs.tie.Tie.build.Goals as goal
 
@@ -20,7 +21,7 @@ count_ends-requires-clause-there c =
 
 pub count_ends-requires-clause-few : goal.count_ends-requires-clause-few
 count_ends-requires-clause-few c =
-    subst (λ xs. length xs ≤ 16384) (sym (c.deref.ensures.value ∙ c.in_ok-columns_of_ends.ensures)) (tie_short c.args.sections.now c.args.columns c.requires.limit c.in_ok-check_sections.ensures.few)
+    subst (λ xs. length xs ≤ MAX_ENDS) (sym (c.deref.ensures.value ∙ c.in_ok-columns_of_ends.ensures)) (tie_short c.args.sections.now c.args.columns c.requires.limit c.in_ok-check_sections.ensures.few)
 
 pub returns-in-Some-clause-fault : goal.returns-in-Some-clause-fault
 returns-in-Some-clause-fault c ne =
@@ -39,7 +40,16 @@ group_ends-requires-clause-there c =
 
 pub group_ends-requires-clause-few : goal.group_ends-requires-clause-few
 group_ends-requires-clause-few c =
-    subst (λ xs. length xs ≤ 16384) (sym (c.deref-3.ensures.value ∙ c.in_ok-columns_of_ends.ensures)) (tie_short c.args.sections.now c.args.columns c.requires.limit c.in_ok-check_sections.ensures.few)
+    subst (λ xs. length xs ≤ MAX_ENDS) (sym (c.deref-3.ensures.value ∙ c.in_ok-columns_of_ends.ensures)) (tie_short c.args.sections.now c.args.columns c.requires.limit c.in_ok-check_sections.ensures.few)
+
+pub cut-requires-clause-there : goal.cut-requires-clause-there
+cut-requires-clause-there c =
+    subst (λ xs. All (λ k. k < c.args.columns) xs) (sym (c.deref-5.ensures.value ∙ c.in_ok-columns_of_ends.ensures))
+    (tie_below c.args.sections.now c.args.columns (all_there c.args.sections.now c.args.columns c.in_ok-check_sections.ensures.ok))
+
+pub cut-requires-clause-few : goal.cut-requires-clause-few
+cut-requires-clause-few c =
+    subst (λ xs. length xs ≤ MAX_ENDS) (sym (c.deref-5.ensures.value ∙ c.in_ok-columns_of_ends.ensures)) (tie_short c.args.sections.now c.args.columns c.requires.limit c.in_ok-check_sections.ensures.few)
 
 pub invariant_of-result : goal.invariant_of-result
 invariant_of-result c =
@@ -53,6 +63,8 @@ invariant_of-result c =
           ∙ ap (λ xs. length (ends_of_column xs k)) (c.deref.ensures.value ∙ is)) c.in_default.ensures)),
       subst (λ xs. Parts xs c.args.columns c.in_ok-groups.groups.starts.items c.in_ok-groups.groups.ends.items) c.deref-3.ensures.value
           (subst (λ n. Parts c.deref-3.result.now n c.in_ok-groups.groups.starts.items c.in_ok-groups.groups.ends.items) long c.in_ok-groups.ensures),
+      c.in_ok-stretches.ensures.tie ∙ c.deref-5.ensures.value,
+      c.in_ok-stretches.ensures.there,
     )
 
 pub returns-clause-sound : goal.returns-clause-sound
