@@ -1,8 +1,7 @@
 pub mod Ends
-pub mod Lists
 pub mod Rounds
 pub mod Builds
 pub mod Columns
 pub mod Firsts
 pub mod Stretches
-pub mod Tests
+pub mod WithoutFault

@@ -1,27 +1,44 @@
 -- Lines that are carried stretch by stretch.
-use Rattle.std.proofs.Common.{◌≡◌, ◌≢◌, ◌+◌, ◌-◌, ◌<◌, ◌≤◌, ◌==◌, ◌&&◌, ◌||◌, ◌⊎◌, inl, inr, ℕ, Bool, true, false, List, [], ◌∷◌, ◌++◌, length, get_or, take, drop, replicate, sym, ap, subst, refl, ◌∙◌, ⊎_elim, arith, length-take, length-drop}
+use Rattle.std.proofs.Common.{◌≡◌, ◌≢◌, ◌+◌, ◌-◌, ◌<◌, ◌≤◌, ◌==◌, ◌&&◌, ◌||◌, ◌⊎◌, inl, inr, ℕ, zero, suc, Bool, true, false, List, [], ◌∷◌, ◌++◌, length, get_or, take, drop, replicate, sym, ap, subst, refl, ◌∙◌, ⊎_elim, arith, length-take, length-drop}
 use Rattle.std.proofs.Math.Seq.{take-add}
 use Rattle.std.proofs.lemmas.Bool.{cases_lt, eq-eqb, ne_eqb}
 use Rattle.std.proofs.lemmas.List.{ext_get_or, take_more, take_all, length-append, append-nil, get_or-take, get_or-drop, get_or-replicate, length-replicate, get_or_past}
 use Rattle.std.proofs.lemmas.List.Concat.{flat_map-append, get_or-flat_map}
 use Rattle.std.proofs.lemmas.List.Folds.{length-flat_map-take}
-use Rattle.std.proofs.lemmas.List.FromFn.{length-map-range_with_len, get_or-map-range_with_len}
 use Rattle.mill_base.specs.Below.{any_below}
 use Rattle.mill_base.specs.Stretches.{IsLaid}
+use Rattle.mill_base.proofs.lemmas.Belows.{any_alike, any_none, any_only}
+use Rattle.mill_base.proofs.lemmas.Lines.{length-line_by, get_or-line_by, line_is}
 use Rattle.harness_ties.specs.Ties.{tied, gathered}
 use Rattle.harness_ties.specs.declared.stretch.Stretch.{Stretch}
 use Rattle.harness_ties.specs.inner.Stretches.{column_of, stretch_columns, written_out}
-use Rattle.harness_ties.proofs.Tests.{any_alike, any_none, any_only, any_further, or_false}
+
+-- ---- tests of all numbers below a bound
+
+or_false : (b : Bool) → (b || false) ≡ b
+or_false true = refl
+or_false false = refl
+
+or_assoc : (a b c : Bool) → ((a || b) || c) ≡ (a || (b || c))
+or_assoc true b c = refl
+or_assoc false b c = refl
+
+-- the numbers below a bound, and so many from there on
+any_further : (p : ℕ → Bool) (a n : ℕ) → any_below p (a + n) ≡ (any_below p a || any_below (λ i. p (a + i)) n)
+any_further p a zero = let e : a + 0 ≡ a = omega arith in rw e (sym (or_false (any_below p a)))
+any_further p a (suc n) =
+    let e : a + suc n ≡ suc (a + n) = omega arith in
+    rw e (ap (λ b. b || p (a + n)) (any_further p a n) ∙ or_assoc (any_below p a) (any_below (λ i. p (a + i)) n) (p (a + n)))
 
 -- ---- the columns of stretches
 
 length-stretch_columns : (s : Stretch) → length (stretch_columns s) ≡ s.count
 unfolding stretch_columns
-length-stretch_columns s = length-map-range_with_len (column_of s) 0 s.count
+length-stretch_columns s = length-line_by s.count (column_of s)
 
 get_or-stretch_columns : (s : Stretch) (i : ℕ) → i < s.count → get_or (stretch_columns s) i 0 ≡ column_of s i
 unfolding stretch_columns
-get_or-stretch_columns s i h = get_or-map-range_with_len (column_of s) 0 s.count i i 0 h (omega arith)
+get_or-stretch_columns s i h = get_or-line_by s.count (column_of s) i 0 h
 
 -- one more stretch at the end
 pub written_more : (ss : List Stretch) (s : Stretch) → written_out (ss ++ s ∷ []) ≡ written_out ss ++ stretch_columns s
@@ -94,15 +111,9 @@ more_laid ss k end s row ends new h before laid = record {
 }
 
 pub all_laid : (ss : List Stretch) (k end : ℕ) (row ends : List Bool) → length ss ≤ k → IsLaidTo ss k end row ends → ends ≡ tied (written_out ss) row
-unfolding tied
 all_laid ss k end row ends past laid =
-    let tie = written_out ss in
-    let cell : ℕ → Bool = λ e. get_or row (get_or tie e 0) false in
     let whole = begins_past ss k end past laid.begins in
-    ext_get_or false ends (tied tie row) (laid.len ∙ sym (length-map-range_with_len cell 0 (length tie)))
-    (λ e h.
-    let below : e < length tie = (let n = laid.len in omega arith) in
-    laid.laid e (omega arith) ∙ sym (get_or-map-range_with_len cell 0 (length tie) e e false below (omega arith)))
+    line_is false ends (length (written_out ss)) (λ e. get_or row (get_or (written_out ss) e 0) false) laid.len (λ e h. laid.laid e (omega arith))
 
 -- ---- gathering
 
@@ -142,14 +153,9 @@ more_gathered ss k end s ends columns row new h before len each =
 
 pub all_gathered : (ss : List Stretch) (k end : ℕ) (ends : List Bool) (columns : ℕ) (row : List Bool) → length ss ≤ k → IsGatheredTo ss k end ends columns row
     → row ≡ gathered columns (written_out ss) ends
-unfolding gathered
 all_gathered ss k end ends columns row past so_far =
-    let tie = written_out ss in
-    let cell : ℕ → Bool = λ c. any_below (lifts tie ends c) (length tie) in
-    ext_get_or false row (gathered columns tie ends) (so_far.len ∙ sym (length-map-range_with_len cell 0 columns))
-    (λ c h.
-    so_far.gathered c ∙ ap (any_below (lifts tie ends c)) (begins_past ss k end past so_far.begins)
-    ∙ sym (get_or-map-range_with_len cell 0 columns c c false (subst (λ n. c < n) so_far.len h) (omega arith)))
+    line_is false row columns (λ c. any_below (lifts (written_out ss) ends c) (length (written_out ss))) so_far.len
+    (λ c h. so_far.gathered c ∙ ap (any_below (lifts (written_out ss) ends c)) (begins_past ss k end past so_far.begins))
 
 -- a place is in a range, before it or past it
 inside : (at count c : ℕ) → ((at ≤ c) × (c < at + count)) ⊎ ((c < at) ⊎ (at + count ≤ c))

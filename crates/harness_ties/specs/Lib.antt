@@ -1,4 +1,5 @@
 pub mod Faults
 pub mod Sections
+pub mod Texts
 pub mod Ties
 pub mod inner

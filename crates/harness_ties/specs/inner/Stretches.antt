@@ -1,6 +1,6 @@
 -- A tie as stretches of ends whose columns rise or fall by one.
-use Rattle.std.specs.Prelude.{ℕ, ◌+◌, ◌-◌, ◌<◌, ◌≤◌, ◌≡◌, true, false, List, map, flat_map, if◌then◌else◌}
-use Rattle.std.specs.List.{range_with_len}
+use Rattle.std.specs.Prelude.{ℕ, ◌+◌, ◌-◌, ◌<◌, ◌≤◌, ◌≡◌, true, false, List, flat_map, if◌then◌else◌}
+use Rattle.mill_base.specs.Lines.{line_by}
 use Rattle.harness_ties.specs.declared.stretch.Stretch.{Stretch}
 
 -- the column of a stretch's i-th end
@@ -9,7 +9,7 @@ column_of s i = if s.falling then s.column - i else s.column + i
 
 -- the columns of a stretch's ends
 unfoldable pub stretch_columns : Stretch → List ℕ
-stretch_columns s = map (column_of s) (range_with_len 0 s.count)
+stretch_columns s = line_by s.count (column_of s)
 
 -- the columns of the ends of all stretches, one after another
 unfoldable pub written_out : List Stretch → List ℕ
