@@ -1,8 +1,9 @@
 -- Lines that are carried stretch by stretch.
 use Rattle.std.proofs.Common.{◌≡◌, ◌≢◌, ◌+◌, ◌-◌, ◌<◌, ◌≤◌, ◌==◌, ◌&&◌, ◌||◌, ◌⊎◌, inl, inr, ℕ, zero, suc, Bool, true, false, List, [], ◌∷◌, ◌++◌, length, get_or, take, drop, replicate, sym, ap, subst, refl, ◌∙◌, ⊎_elim, arith, length-take, length-drop}
+use Rattle.std.specs.List.{AllAdjacentBelow}
 use Rattle.std.proofs.Math.Seq.{take-add}
 use Rattle.std.proofs.lemmas.Bool.{cases_lt, eq-eqb, ne_eqb}
-use Rattle.std.proofs.lemmas.List.{ext_get_or, take_more, take_all, length-append, append-nil, get_or-take, get_or-drop, get_or-replicate, length-replicate, get_or_past}
+use Rattle.std.proofs.lemmas.List.{ext_get_or, take_more, take_all, length-append, append-nil, get_or-take, get_or-drop, get_or-replicate, length-replicate, get_or_past, get_or_push, get_or_append_left, length_push}
 use Rattle.std.proofs.lemmas.List.Concat.{flat_map-append, get_or-flat_map}
 use Rattle.std.proofs.lemmas.List.Folds.{length-flat_map-take}
 use Rattle.mill_base.specs.Below.{any_below}
@@ -11,7 +12,7 @@ use Rattle.mill_base.proofs.lemmas.Belows.{any_alike, any_none, any_only}
 use Rattle.mill_base.proofs.lemmas.Lines.{length-line_by, get_or-line_by, line_is}
 use Rattle.harness_ties.specs.Ties.{tied, gathered}
 use Rattle.harness_ties.specs.declared.stretch.Stretch.{Stretch}
-use Rattle.harness_ties.specs.inner.Stretches.{column_of, stretch_columns, written_out}
+use Rattle.harness_ties.specs.inner.Stretches.{IsLongest, column_of, stretch_columns, written_out}
 
 -- ---- tests of all numbers below a bound
 
@@ -229,3 +230,23 @@ pub cut_more : (tie : List ℕ) (end : ℕ) (ss : List Stretch) (s : Stretch) �
     → written_out (ss ++ s ∷ []) ≡ take (end + s.count) tie
 cut_more tie end ss s before room same =
     written_more ss s ∙ ap (λ xs. xs ++ stretch_columns s) before ∙ ap (λ xs. take end tie ++ xs) (stretch_is tie end s room same) ∙ sym (take-add end s.count tie)
+
+-- no stretch goes on into the next one, with one more stretch at the end
+pub longest_more : (ss all : List Stretch) (s : Stretch) (column : ℕ) → all ≡ ss ++ s ∷ [] → AllAdjacentBelow (λ s next. IsLongest s next.column) ss (length ss)
+    → ((k : ℕ) (d : Stretch) → k + 1 ≡ length ss → IsLongest (get_or ss k d) column) → s.column ≡ column → AllAdjacentBelow (λ s next. IsLongest s next.column) all (length all)
+longest_more ss all s column are before last first k d h =
+    let long = ap length are ∙ length_push ss s in
+    subst (λ (xs : List Stretch). IsLongest (get_or xs k d) (get_or xs (k + 1) d).column) (sym are)
+    (⊎_elim
+    (λ (early : k + 1 < length ss).
+    subst (λ (x : Stretch). IsLongest x (get_or (ss ++ s ∷ []) (k + 1) d).column) (sym (get_or_append_left ss (s ∷ []) d k (omega arith)))
+    (subst (λ (x : Stretch). IsLongest (get_or ss k d) x.column) (sym (get_or_append_left ss (s ∷ []) d (k + 1) early)) (before k d early)))
+    (λ (late : length ss ≤ k + 1).
+    let here : length ss ≡ k + 1 = omega arith in
+    subst (λ (x : Stretch). IsLongest x (get_or (ss ++ s ∷ []) (k + 1) d).column) (sym (get_or_append_left ss (s ∷ []) d k (omega arith)))
+    (subst (λ n. IsLongest (get_or ss k d) n) (sym (ap (λ (x : Stretch). x.column) (get_or_push ss s d (k + 1) here) ∙ first)) (last k d (sym here))))
+    (cases_lt (k + 1) (length ss)))
+
+-- the last of the stretches
+pub last_more : (ss all : List Stretch) (s d : Stretch) (k : ℕ) → all ≡ ss ++ s ∷ [] → k + 1 ≡ length all → get_or all k d ≡ s
+last_more ss all s d k are last = let long = ap length are ∙ length_push ss s in ap (λ xs. get_or xs k d) are ∙ get_or_push ss s d k (omega arith)

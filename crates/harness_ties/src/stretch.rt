@@ -1,9 +1,10 @@
 //! Stretches of ends whose columns rise or fall by one, by which whole lines are carried between columns and ends.
-ghost use Rattle.std.specs.Prelude.{◌≡◌, ◌+◌, ◌<◌, ◌≤◌, ◌||◌, ◌&&◌, ◌==◌, ℕ, false, length, slice_index, slice_index_or, All, IfOk};
+ghost use Rattle.std.specs.Prelude.{◌≡◌, ◌≢◌, ◌+◌, ◌<◌, ◌≤◌, ◌||◌, ◌&&◌, ◌==◌, ℕ, false, length, slice_index, slice_index_or, All, IfOk};
+ghost use Rattle.std.specs.List.{AllAdjacentBelow};
 ghost use Rattle.mill_base.specs.Below.{any_below};
 ghost use Rattle.mill_base.specs.Stretches.{IsLaid};
 ghost use Rattle.harness_ties.specs.Ties.{gathered, tied};
-ghost use Rattle.harness_ties.specs.inner.Stretches.{IsStretch, column_of, written_out};
+ghost use Rattle.harness_ties.specs.inner.Stretches.{IsLongest, IsStretch, column_of, written_out};
 
 use mill_base::bit_row::BitRow;
 use mill_base::limits::MAX_ENDS;
@@ -24,6 +25,7 @@ pub fn cut(alloc: Global, tie: &[u32], columns: u32) -> Result<Vec<Stretch>, Out
     requires there { All (λ c. c < columns) tie.now }
     ensures there { IfOk result (λ v. All (λ s. IsStretch columns s) v.items) }
     ensures tie { IfOk result (λ v. written_out v.items ≡ tie.now) }
+    ensures longest { IfOk result (λ v. AllAdjacentBelow (λ s next. IsLongest s next.column) v.items (length v.items)) }
 {
     let mut stretches = Vec::new(alloc);
     let mut end: usize = 0;
@@ -42,7 +44,9 @@ fn stretch_from(tie: &[u32], end: usize, columns: u32) -> Stretch
     requires end { end < length tie.now }
     ensures there { IsStretch columns result }
     ensures room { end + result.count ≤ length tie.now }
+    ensures first { result.column ≡ slice_index tie.now end }
     ensures columns { (i : ℕ) → i < result.count → slice_index tie.now (end + i) ≡ column_of result i }
+    ensures longest { end + result.count < length tie.now → IsLongest result (slice_index tie.now (end + result.count)) }
 {
     let falls = falling(tie, end);
     let falling = falls > 1;
@@ -61,6 +65,7 @@ fn rising(tie: &[u32], end: usize) -> u32
     ensures some { 0 < result }
     ensures room { end + result ≤ length tie.now }
     ensures columns { (i : ℕ) → i < result → slice_index tie.now (end + i) ≡ slice_index tie.now end + i }
+    ensures longest { end + result < length tie.now → slice_index tie.now (end + result) ≢ slice_index tie.now end + result }
 {
     let mut count: usize = 1;
     while end + count < tie.len() && tie[end + count] as usize == tie[end] as usize + count {
@@ -77,6 +82,7 @@ fn falling(tie: &[u32], end: usize) -> u32
     ensures room { end + result ≤ length tie.now }
     ensures down { result ≤ slice_index tie.now end + 1 }
     ensures columns { (i : ℕ) → i < result → slice_index tie.now (end + i) + i ≡ slice_index tie.now end }
+    ensures longest { end + result < length tie.now → slice_index tie.now (end + result) + result ≢ slice_index tie.now end }
 {
     let mut count: usize = 1;
     while end + count < tie.len() && tie[end + count] as usize + count == tie[end] as usize {

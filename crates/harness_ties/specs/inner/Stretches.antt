@@ -1,5 +1,5 @@
 -- A tie as stretches of ends whose columns rise or fall by one.
-use Rattle.std.specs.Prelude.{ℕ, ◌+◌, ◌-◌, ◌<◌, ◌≤◌, ◌≡◌, true, false, List, flat_map, if◌then◌else◌}
+use Rattle.std.specs.Prelude.{ℕ, ◌+◌, ◌-◌, ◌<◌, ◌≤◌, ◌≡◌, ◌≢◌, true, false, List, flat_map, if◌then◌else◌}
 use Rattle.mill_base.specs.Lines.{line_by}
 use Rattle.harness_ties.specs.declared.stretch.Stretch.{Stretch}
 
@@ -21,3 +21,8 @@ pub record IsStretch (columns : ℕ) (s : Stretch) : Type 0 where
   pub first : s.column < columns
   pub rises : s.falling ≡ false → s.column + s.count ≤ columns
   pub falls : s.falling ≡ true → s.count ≤ s.column + 1
+
+-- the stretch does not go on at an end with this column
+pub record IsLongest (s : Stretch) (column : ℕ) : Type 0 where
+  pub rises : s.falling ≡ false → column ≢ s.column + s.count
+  pub falls : s.falling ≡ true → column + s.count ≢ s.column
