@@ -1,4 +1,5 @@
-pub mod Counts
+pub mod Books
+pub mod inner
 pub mod Rows
 pub mod Satins
 pub mod Spelling
