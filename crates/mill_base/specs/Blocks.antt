@@ -1,12 +1,7 @@
 -- Blocks of words that hold a cyclic line, and lines that are made of one.
-use Rattle.std.specs.Prelude.{◌≡◌, ℕ, ◌+◌, ◌-◌, ◌*◌, ◌/◌, ◌≤◌, ◌<◌, ◌||◌, Bool, true, false, not, List, map}
-use Rattle.std.specs.List.{range_with_len}
+use Rattle.std.specs.Prelude.{◌≡◌, ℕ, ◌+◌, ◌-◌, ◌*◌, ◌/◌, ◌≤◌, ◌<◌, ◌||◌, Bool, true, false, not, List}
 use Rattle.mill_base.specs.Bits.{bit_of}
 use Rattle.mill_base.specs.declared.limits.TheConstants.{MAX_ENDS}
-
--- the line of n cells by the formula of its k-th cell
-unfoldable pub line_by : {A : Type 0} → ℕ → (ℕ → A) → List A
-line_by n cell = map cell (range_with_len 0 n)
 
 -- two truth values are the same
 abbrev pub same : Bool → Bool → Bool

@@ -1,13 +1,13 @@
 //! A cyclic line of truth values in a fixed block of words.
 ghost use Rattle.std.specs.Prelude.{◌≡◌, ℕ, ◌+◌, ◌-◌, ◌<◌, ◌≤◌, ◌&&◌, ◌||◌, ◌↔◌, true, false, IsTrue, length, replicate, slice_index_or, if◌then◌else◌};
-ghost use Rattle.mill_base.specs.Lines.{cell_round};
-ghost use Rattle.mill_base.specs.Blocks.{line_by, same};
+ghost use Rattle.mill_base.specs.Blocks.{same};
+ghost use Rattle.mill_base.specs.Lines.{cell_round, line_by};
 ghost use Rattle.mill_base.specs.declared.limits.TheConstants.{MAX_ENDS};
 
 use crate::bit_row::BitRow;
 use crate::joint::{Alike, Both, Either, join};
-use crate::turning::{WORDS, clear_past, copied, filled, merged_words, turned, word_count};
 use crate::row_words::same_words;
+use crate::turning::{WORDS, clear_past, copied, filled, merged_words, turned, word_count};
 use std::marker::Model;
 
 /// A cyclic line of 1 to `MAX_ENDS` truth values, whose last position is followed by its first. It is worked through by whole

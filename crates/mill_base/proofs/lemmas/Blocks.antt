@@ -3,27 +3,19 @@ use Rattle.std.proofs.Common.{◌≡◌, ◌≢◌, ◌+◌, ◌-◌, ◌*◌, �
 use Rattle.std.specs.Int.{bit_at}
 use lib.Bits.{bit_xor}
 use Rattle.std.proofs.Math.Nat.{mod-eq_of_lt, mod-eq-sub-mod}
-use Rattle.std.proofs.lemmas.Bool.{cases_lt, cond-true, cond-false}
+use Rattle.std.proofs.lemmas.Bool.{cases_lt, cases_eq, cond-true, cond-false}
 use Rattle.std.proofs.lemmas.Bool.Decides.{nat_tests}
 use Rattle.std.proofs.lemmas.List.{get_or-replicate, length-replicate, get_or_past}
 use Rattle.std.proofs.lemmas.Nat.Bits.{bit_at_and, bit_at_xor, bit_at-lt, bit_at-zero}
-use Rattle.std.proofs.lemmas.List.FromFn.{length-map-range_with_len, get_or-map-range_with_len}
 use Rattle.mill_base.specs.Bits.{bit_of, bits_of}
 use Rattle.mill_base.specs.Stretches.{AreLaid}
-use Rattle.mill_base.specs.Blocks.{line_by, same, IsAgain}
+use Rattle.mill_base.specs.Blocks.{same, IsAgain}
 use Rattle.mill_base.specs.Turnings.{Turned}
-use Rattle.mill_base.specs.Lines.{cell_round}
-use Rattle.mill_base.proofs.lemmas.Rows.{same_or_not, bits_are, length_is, get_or-bits_of}
+use Rattle.mill_base.specs.Lines.{cell_round, line_by}
+use Rattle.mill_base.proofs.lemmas.Lines.{length-line_by, get_or-line_by}
+use Rattle.mill_base.proofs.lemmas.Rows.{bits_are, length_is, get_or-bits_of}
 use Rattle.mill_base.proofs.lemmas.Masks.{bit_negated}
 use Rattle.mill_base.proofs.lemmas.RotatedRows.{bit_of_set_here, bit_of_set_others}
-
-pub length-line_by : {A : Type 0} (n : ℕ) (cell : ℕ → A) → length (line_by n cell) ≡ n
-unfolding line_by
-length-line_by n cell = length-map-range_with_len cell 0 n
-
-pub get_or-line_by : {A : Type 0} (n : ℕ) (cell : ℕ → A) (k : ℕ) (d : A) → k < n → get_or (line_by n cell) k d ≡ cell k
-unfolding line_by
-get_or-line_by n cell k d h = get_or-map-range_with_len cell 0 n k k d h (omega arith)
 
 -- a bit of two words
 pub bit_of_both : (a b i : ℕ) → (bit_at (bit_and a b) i == 1) ≡ ((bit_at a i == 1) && (bit_at b i == 1))
@@ -83,7 +75,7 @@ one_copied from words size count there before = record {
   done = λ i h. ⊎_elim
       (λ (here : i ≡ count). rw here (get_or-set_same words count (get_or from count 0) 0 (let long = before.long in omega arith)))
       (λ (off : i ≢ count). get_or-set_other words count i (get_or from count 0) 0 off ∙ before.done i (omega arith))
-      (same_or_not i count);
+      (cases_eq i count);
   rest = λ i h. get_or-set_other words count i (get_or from count 0) 0 (omega arith) ∙ before.rest i (omega arith);
 }
 
@@ -125,7 +117,7 @@ bit_merged mask inside outside word i out within = ⊎_elim
     (λ (off : bit_at mask i ≢ 1).
     let none : bit_at mask i ≡ 0 = omega (arith, bit_at-lt mask i) in
     ap (λ b. b == 1) (out none) ∙ sym (cond-false (bit_at mask i == 1) (bit_at inside i == 1) (bit_at outside i == 1) (ap (λ b. b == 1) none)))
-    (same_or_not (bit_at mask i) 1)
+    (cases_eq (bit_at mask i) 1)
 
 -- the words so far are merged under a mask, and the others are clear
 pub record AreMerged (mask inside outside : List ℕ) (size count : ℕ) (words : List ℕ) : Type 0 where
@@ -148,7 +140,7 @@ one_merged mask inside outside words size count word there out within before = r
       ∙ bit_merged (get_or mask count 0) (get_or inside count 0) (get_or outside count 0) word (k % 64) (out (k % 64) (omega arith)) (within (k % 64) (omega arith))
       ∙ ap (λ q. cond (bit_at (get_or mask q 0) (k % 64) == 1) (bit_at (get_or inside q 0) (k % 64) == 1) (bit_at (get_or outside q 0) (k % 64) == 1)) (sym at))
       (λ (off : k / 64 ≢ count). bit_of_set_others words count word k off ∙ before.here k (omega arith))
-      (same_or_not (k / 64) count);
+      (cases_eq (k / 64) count);
   past = λ k h. bit_of_set_others words count word k (omega arith) ∙ before.past k (omega arith);
 }
 
@@ -162,7 +154,7 @@ word_again line old behind word there below above some = record {
       (λ (at : k / 64 ≡ behind / 64).
       bit_of_set_here old (behind / 64) word k there at ∙ ap (λ b. b == 1) (below (k % 64) (omega arith)) ∙ ap (λ q. bit_at (get_or old q 0) (k % 64) == 1) (sym at))
       (λ (off : k / 64 ≢ behind / 64). bit_of_set_others old (behind / 64) word k off)
-      (same_or_not (k / 64) (behind / 64));
+      (cases_eq (k / 64) (behind / 64));
   within = λ k h inner.
       let at : k / 64 ≡ behind / 64 = omega arith in
       let start : (k - behind) / 64 ≡ 0 = omega arith in
