@@ -2,6 +2,7 @@ pub mod Belows
 pub mod BitCounts
 pub mod BlockRounds
 pub mod Blocks
+pub mod ByteWeights
 pub mod Bytes
 pub mod Causes
 pub mod Digits
@@ -19,5 +20,4 @@ pub mod Stretches
 pub mod Swaps
 pub mod TextWords
 pub mod Transposes
-pub mod Unpacks
 pub mod WordBits

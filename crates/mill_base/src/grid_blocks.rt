@@ -1,7 +1,7 @@
 //! Rows of bits that are turned by blocks of 64 by 64: columns become rows.
 ghost use Rattle.std.specs.Prelude.{◌≡◌, ◌+◌, ◌*◌, ◌/◌, ◌^◌, ◌<◌, ◌==◌, ℕ, [], length, slice_index, slice_index_or};
 ghost use Rattle.std.specs.Int.{bit_at};
-ghost use Rattle.mill_base.specs.GridBlocks.{HaveWord, IsWordPut, IsBlockPut, IsBlockTurned, IsBandTurned, AreBandsTurned};
+ghost use Rattle.mill_base.specs.inner.GridBlocks.{HaveWord, IsWordPut, IsBlockPut, IsBlockTurned, IsBandTurned, AreBandsTurned};
 ghost use Rattle.mill_base.specs.Grids.{row_cell};
 
 use crate::bit_row::BitRow;

@@ -1,24 +1,16 @@
 //! Rows in bytes, eight positions to a byte with the first in its highest bit.
 ghost use Rattle.std.specs.Prelude.{◌^◌, ◌≡◌, ◌≢◌, ◌+◌, ◌-◌, ◌*◌, ◌/◌, ◌%◌, ◌<◌, ◌≤◌, ◌==◌, ℕ, length, slice_index};
 ghost use Rattle.std.specs.Int.{bit_at};
-ghost use Rattle.mill_base.specs.Bits.{bit_of, IsRow, word_byte};
+ghost use Rattle.mill_base.specs.Bits.{bit_of, IsRow};
 
 use crate::row_words::clear_past;
-use crate::word::reversed;
-
-/// The eight bits from bit 8 * at of a word on, the first in the byte's highest bit.
-fn byte_of(word: u64, at: usize) -> u8
-    requires { at < 8 }
-    ensures { result ≡ word_byte word at }
-{
-    (((word >> (8 * at)) & 0xff) as u8).reverse_bits()
-}
+use crate::word::reversed_bytes;
 
 /// The eight bytes of a word, each with its first bit highest.
 fn bytes_of(word: u64) -> [u8; 8]
-    ensures { (b : ℕ) → b < 8 → slice_index result b ≡ word_byte word b }
+    ensures { (b i : ℕ) → b < 8 → i < 8 → bit_at (slice_index result b) i ≡ bit_at word (8 * b + 7 - i) }
 {
-    reversed(word).to_be_bytes()
+    reversed_bytes(word).to_le_bytes()
 }
 
 fn put_eight(out: &mut [u8], index: usize, bytes: &[u8; 8])
@@ -30,18 +22,31 @@ fn put_eight(out: &mut [u8], index: usize, bytes: &[u8; 8])
     out[8 * index..8 * index + 8].copy_from_slice(bytes);
 }
 
+/// Puts as many of eight bytes from byte `at` on as there is room for.
+fn put_rest(out: &mut [u8], at: usize, bytes: &[u8; 8])
+    requires at { at ≤ length out.old }
+    requires few { length out.old ≤ at + 8 }
+    ensures len { length out.new ≡ length out.old }
+    ensures here { (j : ℕ) → at ≤ j → j < length out.old → slice_index out.new j ≡ slice_index bytes.now (j - at) }
+    ensures below { (j : ℕ) → j < at → slice_index out.new j ≡ slice_index out.old j }
+{
+    let rest = out.len() - at;
+    out[at..].copy_from_slice(&bytes[..rest]);
+}
+
 /// Writes the bytes of the words, as many as there is room for.
 pub fn pack(words: &[u64], out: &mut [u8])
     requires { length out.old ≤ 8 * length words.now }
-    ensures { (j : ℕ) → j < length out.old → slice_index out.new j ≡ word_byte (slice_index words.now (j / 8)) (j % 8) }
+    ensures { (j i : ℕ) → j < length out.old → i < 8 → bit_at (slice_index out.new j) i ≡ bit_at (slice_index words.now (j / 8)) (8 * (j % 8) + 7 - i) }
 {
     let whole = out.len() / 8;
     for index in 0..whole {
         put_eight(out, index, &bytes_of(words[index]));
     }
-    for j in 8 * whole..out.len() {
-        out[j] = byte_of(words[j / 8], j % 8);
+    if out.len() % 8 == 0 {
+        return;
     }
+    put_rest(out, 8 * whole, &bytes_of(words[whole]));
 }
 
 fn byte_or_zero(bytes: &[u8], at: usize) -> u8
@@ -50,23 +55,24 @@ fn byte_or_zero(bytes: &[u8], at: usize) -> u8
     if at < bytes.len() { bytes[at] } else { 0 }
 }
 
-/// The word of eight bytes, of those that are there, each with its first bit highest.
+/// The eight bytes from byte `at` on, 0 past the last.
+fn eight_from(bytes: &[u8], at: usize) -> [u8; 8]
+    requires { at < 2 ^ 62 }
+    ensures { (j : ℕ) → j < 8 → slice_index result j ≡ slice_index bytes.now (at + j) }
+{
+    let mut eight = [0u8; 8];
+    for j in 0..8 {
+        eight[j] = byte_or_zero(bytes, at + j);
+    }
+    eight
+}
+
+/// The word of eight bytes from byte 8 * index on, each with its first bit highest.
 fn word_of(bytes: &[u8], index: usize) -> u64
     requires { index < 2 ^ 32 }
     ensures { (i : ℕ) → i < 64 → bit_at result i ≡ bit_at (slice_index bytes.now (8 * index + i / 8)) (7 - i % 8) }
 {
-    let at = 8 * index;
-    let eight = [
-        byte_or_zero(bytes, at),
-        byte_or_zero(bytes, at + 1),
-        byte_or_zero(bytes, at + 2),
-        byte_or_zero(bytes, at + 3),
-        byte_or_zero(bytes, at + 4),
-        byte_or_zero(bytes, at + 5),
-        byte_or_zero(bytes, at + 6),
-        byte_or_zero(bytes, at + 7),
-    ];
-    reversed(u64::from_be_bytes(eight))
+    reversed_bytes(u64::from_le_bytes(eight_from(bytes, 8 * index)))
 }
 
 /// Reads the first `len` bits from packed bytes.

@@ -1,17 +1,18 @@
-//! A text of words and numbers that takes no memory.
+//! Texts of constant words and numbers, which take no memory.
 ghost use Rattle.std.specs.Prelude.{◌≡◌, Some};
 ghost use Rattle.mill_base.specs.Phrases.{number_text, phrase_text};
 
 use std::fmt;
 
-/// A number of a text.
+/// A number of a phrase, told in decimal digits without leading zeros, behind a minus sign where it is below 0.
 #[derive(Clone, Copy, Debug, PartialEq, Eq)]
 pub enum Number {
     Whole(u64),
     Signed(i64),
 }
 
-/// Words with numbers between them.
+/// Constant words with up to three numbers between them: the text of a fault. It is told as its words and numbers one after
+/// another, with nothing added, so each space stands in the words.
 #[derive(Clone, Copy, Debug, PartialEq, Eq)]
 pub enum Phrase {
     Plain(&'static str),
@@ -20,7 +21,7 @@ pub enum Phrase {
     Three(&'static str, Number, &'static str, Number, &'static str, Number, &'static str),
 }
 
-/// A number that is not negative.
+/// A number of 32 bits as a number of a phrase.
 pub fn whole(number: u32) -> Number
     ensures { result ≡ Number.Whole number }
 {

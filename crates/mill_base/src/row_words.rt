@@ -2,8 +2,8 @@
 ghost use Rattle.std.specs.Prelude.{◌^◌, None, IfSome, ◌≡◌, ◌≢◌, not, count_by, ◌+◌, ◌-◌, ◌*◌, ◌/◌, ◌%◌, ◌<◌, ◌≤◌, ◌==◌, ℕ, false, length, slice_index, IsTrue, ◌↔◌};
 ghost use Rattle.std.specs.Int.{bit_at};
 ghost use Rattle.mill_base.specs.Bits.{bit_of, bits_of, IsRow};
-ghost use Rattle.mill_base.specs.Firsts.{IsFirstSet};
-ghost use Rattle.mill_base.specs.Turnings.{Turned};
+ghost use Rattle.mill_base.specs.inner.FirstBits.{IsFirstSet};
+ghost use Rattle.mill_base.specs.inner.Turnings.{Turned};
 
 use crate::word::{ahead, bits_from, bits_moved_up, low_bits};
 

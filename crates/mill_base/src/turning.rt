@@ -3,8 +3,8 @@ ghost use Rattle.std.specs.Prelude.{◌≡◌, ℕ, ◌+◌, ◌-◌, ◌*◌, �
 ghost use Rattle.std.specs.Int.{bit_at};
 ghost use Rattle.mill_base.specs.Bits.{bit_of};
 ghost use Rattle.mill_base.specs.Blocks.{IsAgain};
-ghost use Rattle.mill_base.specs.Stretches.{AreLaid};
-ghost use Rattle.mill_base.specs.Turnings.{Turned};
+ghost use Rattle.mill_base.specs.inner.Stretches.{AreLaid};
+ghost use Rattle.mill_base.specs.inner.Turnings.{Turned};
 
 use crate::word::{bits_from, merged};
 

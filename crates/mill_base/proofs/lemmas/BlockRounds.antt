@@ -4,7 +4,7 @@ use Rattle.std.specs.Int.{bit_at}
 use Rattle.std.proofs.lemmas.Bool.{cases_eq, cases_lt}
 use Rattle.std.proofs.lemmas.Nat.Bits.{bit_at-lt}
 use Rattle.mill_base.proofs.lemmas.WordBits.{bit_at_shr, bit_at_shl_from}
-use Rattle.mill_base.specs.Swaps.{IsSwapMask, IsPairSwapped, IsRoundOf, cross}
+use Rattle.mill_base.specs.inner.Swaps.{IsSwapMask, IsPairSwapped, IsRoundOf, cross}
 
 pub pair_within : (mask by row : ℕ) → IsSwapMask mask by → row < 64 → bit_at mask row ≡ 1 → row + by < 64
 pair_within mask by row is h set = ⊎_elim (λ (inside : row + by < 64). inside)

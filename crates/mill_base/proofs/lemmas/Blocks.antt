@@ -8,9 +8,9 @@ use Rattle.std.proofs.lemmas.Bool.Decides.{nat_tests}
 use Rattle.std.proofs.lemmas.List.{get_or-replicate, length-replicate, get_or_past}
 use Rattle.std.proofs.lemmas.Nat.Bits.{bit_at_and, bit_at_xor, bit_at-lt, bit_at-zero}
 use Rattle.mill_base.specs.Bits.{bit_of, bits_of}
-use Rattle.mill_base.specs.Stretches.{AreLaid}
+use Rattle.mill_base.specs.inner.Stretches.{AreLaid}
 use Rattle.mill_base.specs.Blocks.{same, IsAgain}
-use Rattle.mill_base.specs.Turnings.{Turned}
+use Rattle.mill_base.specs.inner.Turnings.{Turned}
 use Rattle.mill_base.specs.Lines.{cell_round, line_by}
 use Rattle.mill_base.proofs.lemmas.Lines.{length-line_by, get_or-line_by}
 use Rattle.mill_base.proofs.lemmas.Rows.{bits_are, length_is, get_or-bits_of}

@@ -5,7 +5,8 @@ use Rattle.std.proofs.lemmas.Bool.{both_ways, cases_lt}
 use Rattle.std.proofs.lemmas.Nat.Bits.{bit_at-zero, bit_at-trailing_zeros}
 use Rattle.std.proofs.lemmas.List.{get_or_past}
 use Rattle.mill_base.specs.Bits.{bit_of, bits_of, IsRow}
-use Rattle.mill_base.specs.Firsts.{IsFirstSet, IsFirstTrue}
+use Rattle.mill_base.specs.Firsts.{IsFirstTrue}
+use Rattle.mill_base.specs.inner.FirstBits.{IsFirstSet}
 use Rattle.mill_base.proofs.lemmas.Stretches.{cell_is}
 use Rattle.mill_base.proofs.lemmas.WordBits.{bit_at_shr}
 

@@ -2,7 +2,7 @@
 use Rattle.std.proofs.Common.{◌≡◌, ◌+◌, ◌/◌, ◌<◌, ℕ, Bool, false, List, [], length, get_or, ap, ◌∙◌, arith}
 use Rattle.mill_base.specs.Lines.{line_by}
 use Rattle.mill_base.specs.Grids.{GridCells, IsGrid, row_cell, grid_cell, transposed}
-use Rattle.mill_base.specs.GridBlocks.{AreBandsTurned}
+use Rattle.mill_base.specs.inner.GridBlocks.{AreBandsTurned}
 use Rattle.mill_base.proofs.lemmas.Lines.{line_is}
 
 -- two grids are one by their parts

@@ -6,7 +6,8 @@ use Rattle.std.proofs.lemmas.List.{length-map, get_or-map}
 use Rattle.std.proofs.lemmas.Bool.Decides.{nat_tests}
 use Rattle.std.proofs.lemmas.Nat.Bits.{bit_at_or, bit_at-lt}
 use Rattle.mill_base.specs.Bits.{bit_of, bits_of, IsRow}
-use Rattle.mill_base.specs.Stretches.{IsLaid, AreLaid}
+use Rattle.mill_base.specs.Stretches.{IsLaid}
+use Rattle.mill_base.specs.inner.Stretches.{AreLaid}
 use Rattle.mill_base.proofs.lemmas.Rows.{length-bits_of, get_or-bits_of, bits_same_there, bits_are, bit_is_cell, holds_row, length_is}
 use Rattle.mill_base.proofs.lemmas.RotatedRows.{bit_of_set_here, bit_of_set_others}
 

@@ -6,7 +6,7 @@ use Rattle.std.proofs.lemmas.Bool.Decides.{nat_tests}
 use Rattle.std.proofs.lemmas.Nat.Bits.{bit_at-lt, bit_at_and, bit_at_or}
 use Rattle.mill_base.proofs.lemmas.WordBits.{bit_at_shr, bit_at_shl_below, bit_at_shl_from}
 use Rattle.mill_base.proofs.lemmas.Belows.{same_below, under_below}
-use Rattle.mill_base.specs.Swaps.{IsSwapMask, swap_place}
+use Rattle.mill_base.specs.inner.Swaps.{IsSwapMask, swap_place}
 
 -- the masks that are used, and where the bits that they swap come from
 pub mask_1 : IsSwapMask 0x5555555555555555 1
@@ -99,9 +99,15 @@ place_32 = swap_place 0x00000000ffffffff 32
 pub within_32 : (i : ℕ) → i < 64 → place_32 i < 64
 within_32 = under_below place_32 64 64 refl
 
--- all six swaps, one after another, put the bits in the other order
-pub places_reversed : (i : ℕ) → i < 64 → place_1 (place_2 (place_4 (place_8 (place_16 (place_32 i))))) ≡ 63 - i
-places_reversed = same_below (λ i. place_1 (place_2 (place_4 (place_8 (place_16 (place_32 i)))))) (λ i. 63 - i) 64 refl
+-- three swaps put the bits of each byte in the other order, and three more the bytes
+pub places_in_bytes : (i : ℕ) → i < 64 → place_1 (place_2 (place_4 i)) ≡ 8 * (i / 8) + (7 - i % 8)
+places_in_bytes = same_below (λ i. place_1 (place_2 (place_4 i))) (λ i. 8 * (i / 8) + (7 - i % 8)) 64 refl
+
+abbrev place_in_byte : ℕ → ℕ
+place_in_byte i = 8 * (i / 8) + (7 - i % 8)
+
+pub places_reversed : (i : ℕ) → i < 64 → place_in_byte (place_8 (place_16 (place_32 i))) ≡ 63 - i
+places_reversed = same_below (λ i. place_in_byte (place_8 (place_16 (place_32 i)))) (λ i. 63 - i) 64 refl
 
 -- a swap, bit by bit
 pub bit_swapped : (word by mask i : ℕ) → by < 64 → IsSwapMask mask by → i < 64

@@ -1,4 +1,4 @@
-use Rattle.mill_base.specs.GridBlocks.{IsBlockPut}
+use Rattle.mill_base.specs.inner.GridBlocks.{IsBlockPut}
 use Rattle.mill_base.proofs.grid_blocks.scatter.Given as goal
 
 abbrev pub invariant-loop-i : goal.invariant-loop-i

@@ -1,4 +1,4 @@
-use Rattle.mill_base.specs.GridBlocks.{AreBandsTurned}
+use Rattle.mill_base.specs.inner.GridBlocks.{AreBandsTurned}
 use Rattle.mill_base.proofs.grid_blocks.turn.Given as goal
 
 abbrev pub invariant-loop-band : goal.invariant-loop-band

@@ -1,4 +1,4 @@
-use Rattle.mill_base.specs.GridBlocks.{IsBandTurned}
+use Rattle.mill_base.specs.inner.GridBlocks.{IsBandTurned}
 use Rattle.mill_base.proofs.grid_blocks.turn_band.Given as goal
 
 abbrev pub invariant-loop-at : goal.invariant-loop-at

@@ -2,7 +2,7 @@ use Rattle.std.proofs.Common.{◌*◌, ◌<◌, subst, ◌∙◌, arith}
 use Rattle.std.proofs.lemmas.List.{get_or_past}
 use Rattle.std.specs.Prelude.{false}
 use Rattle.mill_base.proofs.lemmas.Packs.{length-packed}
-use Rattle.mill_base.proofs.lemmas.Unpacks.{packed_bit, same_packed}
+use Rattle.mill_base.proofs.lemmas.Packs.{packed_bit, same_packed}
 use Rattle.mill_base.proofs.laws.a_packed_row_has_its_positions.Goals as goal
 
 pub returns-clause-length : goal.returns-clause-length

@@ -1,5 +1,5 @@
 use Rattle.std.proofs.Common.{◌≡◌, ◌*◌, length}
-use Rattle.mill_base.specs.Turnings.{Turned}
+use Rattle.mill_base.specs.inner.Turnings.{Turned}
 use Rattle.mill_base.proofs.row_words.put_turned.Given as goal
 
 abbrev pub invariant-loop-index : goal.invariant-loop-index

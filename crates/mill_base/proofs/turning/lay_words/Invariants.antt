@@ -1,6 +1,6 @@
 use Rattle.std.proofs.Common.{◌+◌, ◌*◌}
 use Rattle.mill_base.specs.Bits.{bit_of}
-use Rattle.mill_base.specs.Stretches.{AreLaid}
+use Rattle.mill_base.specs.inner.Stretches.{AreLaid}
 use Rattle.mill_base.proofs.turning.lay_words.Given as goal
 
 abbrev pub invariant-loop-done : goal.invariant-loop-done

@@ -2,7 +2,7 @@ use Rattle.std.proofs.Common.{◌≡◌, ◌<◌, ◌/◌, ◌%◌, ◌-◌, ◌
 use Rattle.std.specs.Int.{bit_at}
 use Rattle.mill_base.specs.Bits.{bits_of}
 use Rattle.mill_base.proofs.lemmas.Rows.{length_is, length-bits_of, get_or-bits_of, row_within}
-use Rattle.mill_base.proofs.lemmas.Unpacks.{unpacked_is}
+use Rattle.mill_base.proofs.lemmas.Packs.{unpacked_is}
 use Rattle.mill_base.proofs.bit_row.BitRow.unpack.Goals as goal
 
 long : (c : goal.After-unpack) → length (bits_of c.unpack.new.words.items c.self.inside.len) ≡ length c.args.self.now
