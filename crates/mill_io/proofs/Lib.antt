@@ -1,3 +1,4 @@
 pub mod Answered
 pub mod Filing
+pub mod Placing
 pub mod lemmas

@@ -12,5 +12,7 @@ pub mod pieces;
 mod room;
 pub mod shelf;
 pub mod sink;
+pub mod sure_shelf;
+pub mod sure_sink;
 #[cfg(test)]
 mod tests;
