@@ -3,6 +3,7 @@
 
 pub mod faults;
 pub mod file_shelf;
+mod file_write;
 pub mod gate;
 pub mod memory_shelf;
 pub mod memory_sink;
