@@ -1,4 +1,3 @@
-pub mod Answered
 pub mod Filing
 pub mod Placing
 pub mod lemmas

@@ -97,8 +97,9 @@ pub room_nowhere : (shelf : SureFiles) (name bytes : List ℕ) → is_some (cont
 room_nowhere shelf name bytes missing none =
     let none_is : (nat_le (length name) NAME_ROOM && nat_lt (length shelf.files) shelf.places) ≡ false = none_left (length name) (length shelf.files) shelf.places none in
     rw (missing, none_is) (sym (and_false (nat_le (length bytes) shelf.room))) where
-  none_left : (n used places : ℕ) → (places ≤ used) ⊎ (NAME_ROOM < n) → (nat_le n NAME_ROOM && nat_lt used places) ≡ false
-  none_left n used places none = grind arith
-  and_false : (b : Bool) → (b && false) ≡ false
-  and_false true = refl
-  and_false false = refl
+      none_left : (n used places : ℕ) → (places ≤ used) ⊎ (NAME_ROOM < n) → (nat_le n NAME_ROOM && nat_lt used places) ≡ false
+      none_left n used places none = grind arith
+
+      and_false : (b : Bool) → (b && false) ≡ false
+      and_false true = refl
+      and_false false = refl

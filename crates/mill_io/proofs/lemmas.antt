@@ -1,3 +1,4 @@
+pub mod Answered
 pub mod Cuts
 pub mod Joined
 pub mod Listed

@@ -106,3 +106,6 @@ fn fill<F: Write + OpenFile + Drop>(
     file.write_all(bytes)?;
     file.sync_all()
 }
+
+#[cfg(test)]
+mod tests;

@@ -21,9 +21,15 @@ returns-then-self-len-clause-fits c =
     room_nowhere c.args.self.now c.args.name.now c.args.content.now
     (content_missing c.self.inside.places.items c.deref.result.now c.self.inside.used c.args.name.now c.args.content.now c.args.self.now.files
     (ap (λ (s : SureFiles). s.files) c.self.view_is) c.deref.ensures.value c.in_default.ensures)
-    (elim c.then-self-len.branch [ then-self-len-via-then-self-len w ↦ inl (omega (arith, ap (λ (s : SureFiles). s.places) c.self.view_is,
-    all_used c.self.inside.places.items c.deref.result.now c.self.inside.used c.args.name.now c.args.content.now c.args.self.now.files
-    (ap (λ (s : SureFiles). s.files) c.self.view_is) c.deref.ensures.value (omega (arith, w.if-self-len.true, c.len.ensures, c.deref.ensures.len, ap length c.deref.ensures.value)))) | then-self-len-via-else-self-len+then-name-gt-NAME_ROOM w ↦ inr (search rules) ])
+    (elim c.then-self-len.branch [
+      | then-self-len-via-then-self-len w ↦ inl (omega (
+        arith,
+        ap (λ (s : SureFiles). s.places) c.self.view_is,
+        all_used c.self.inside.places.items c.deref.result.now c.self.inside.used c.args.name.now c.args.content.now c.args.self.now.files
+            (ap (λ (s : SureFiles). s.files) c.self.view_is) c.deref.ensures.value (omega (arith, w.if-self-len.true, c.len.ensures, c.deref.ensures.len, ap length c.deref.ensures.value)),
+      ))
+      | then-self-len-via-else-self-len+then-name-gt-NAME_ROOM w ↦ inr (search rules)
+    ])
 
 pub returns-clause-ok : goal.returns-clause-ok
 returns-clause-ok c =
