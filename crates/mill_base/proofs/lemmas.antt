@@ -12,6 +12,7 @@ pub mod Grids
 pub mod Lines
 pub mod Masks
 pub mod Packs
+pub mod Pieces
 pub mod Ranges
 pub mod RotatedRows
 pub mod RoundLines

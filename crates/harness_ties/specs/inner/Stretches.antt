@@ -8,11 +8,11 @@ abbrev pub column_of : Stretch → ℕ → ℕ
 column_of s i = if s.falling then s.column - i else s.column + i
 
 -- the columns of a stretch's ends
-unfoldable pub stretch_columns : Stretch → List ℕ
+abbrev pub stretch_columns : Stretch → List ℕ
 stretch_columns s = line_by s.count (column_of s)
 
 -- the columns of the ends of all stretches, one after another
-unfoldable pub written_out : List Stretch → List ℕ
+abbrev pub written_out : List Stretch → List ℕ
 written_out stretches = flat_map stretch_columns stretches
 
 -- a stretch has an end, and all of its columns are there

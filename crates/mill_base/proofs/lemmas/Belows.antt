@@ -50,6 +50,19 @@ any_alike p q zero h = refl
 any_alike p q (suc n) h =
     ap (λ b. b || p n) (any_alike p q n (λ i below. h i (omega arith))) ∙ ap (λ b. any_below q n || b) (h n (omega arith))
 
+-- the numbers below a bound, and so many from there on
+pub any_further : (p : ℕ → Bool) (a n : ℕ) → any_below p (a + n) ≡ (any_below p a || any_below (λ i. p (a + i)) n)
+any_further p a zero = let e : a + 0 ≡ a = omega arith in rw e (sym (or_false (any_below p a))) where
+  or_false : (b : Bool) → (b || false) ≡ b
+  or_false true = refl
+  or_false false = refl
+any_further p a (suc n) =
+    let e : a + suc n ≡ suc (a + n) = omega arith in
+    rw e (ap (λ b. b || p (a + n)) (any_further p a n) ∙ or_assoc (any_below p a) (any_below (λ i. p (a + i)) n) (p (a + n))) where
+      or_assoc : (a b c : Bool) → ((a || b) || c) ≡ (a || (b || c))
+      or_assoc true b c = refl
+      or_assoc false b c = refl
+
 -- ---- each number passes
 
 pub all_each : (p : ℕ → Bool) (n : ℕ) → ((i : ℕ) → i < n → p i ≡ true) → all_below p n ≡ true

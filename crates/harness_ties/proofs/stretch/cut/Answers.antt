@@ -1,12 +1,13 @@
 use Rattle.std.proofs.Common.{◌+◌, ap, get_or, length, sym, subst, All, ◌∙◌, List, arith}
+use Rattle.std.proofs.lemmas.List.{get_or_push, length_push}
 use Rattle.std.proofs.lemmas.List.Elements.{All-push, All-nil}
+use Rattle.mill_base.proofs.lemmas.Pieces.{cut_more, adjacent_push}
 use Rattle.harness_ties.specs.declared.stretch.Stretch.{Stretch}
-use Rattle.harness_ties.specs.inner.Stretches.{IsLongest, IsStretch, written_out}
-use Rattle.harness_ties.proofs.Stretches.{cut_more, last_more, longest_more}
+use Rattle.harness_ties.specs.inner.Stretches.{IsLongest, IsStretch, stretch_columns, written_out}
+use Rattle.harness_ties.proofs.Stretches.{length-stretch_columns, get_or-stretch_columns}
 use Rattle.harness_ties.proofs.stretch.cut.Goals as goal
 
 pub loop-end-init : goal.loop-end-init
-unfolding written_out
 loop-end-init c = record {
   room = omega arith;
   there = subst (λ (ss : List Stretch). All (λ s. IsStretch c.args.columns s) ss) (sym c.new-stretches.ensures.items) (All-nil (λ s. IsStretch c.args.columns s));
@@ -16,14 +17,18 @@ loop-end-init c = record {
 }
 
 pub loop-end-preserved : goal.loop-end-preserved
-loop-end-preserved c = record {
-  room = c.stretch_from-stretch.ensures.room;
-  there = subst (λ (ss : List Stretch). All (λ s. IsStretch c.args.columns s) ss) (sym c.in_ok-push.ensures.items)
-      (All-push (λ s. IsStretch c.args.columns s) c.loop-end.stretches.items c.stretch_from-stretch.result c.loop-end.invariant.there c.stretch_from-stretch.ensures.there);
-  tie = ap written_out c.in_ok-push.ensures.items
-      ∙ cut_more c.args.tie.now c.loop-end.end c.loop-end.stretches.items c.stretch_from-stretch.result c.loop-end.invariant.tie c.stretch_from-stretch.ensures.room c.stretch_from-stretch.ensures.columns;
-  longest = longest_more c.loop-end.stretches.items c.push.new.self.items c.stretch_from-stretch.result (get_or c.args.tie.now c.loop-end.end 0) c.in_ok-push.ensures.items c.loop-end.invariant.longest
-      (λ k d h. c.loop-end.invariant.last k d h c.loop-end-test.true) c.stretch_from-stretch.ensures.first;
-  last = λ k d h below. subst (λ (s : Stretch). IsLongest s (get_or c.args.tie.now (c.loop-end.end + c.stretch_from-stretch.result.count) 0))
-      (sym (last_more c.loop-end.stretches.items c.push.new.self.items c.stretch_from-stretch.result d k c.in_ok-push.ensures.items h)) (c.stretch_from-stretch.ensures.longest below);
-}
+loop-end-preserved c =
+    let ss = c.loop-end.stretches.items in
+    let s = c.stretch_from-stretch.result in
+    let tie = c.args.tie.now in
+    let from = c.stretch_from-stretch.ensures in
+    record {
+      room = from.room;
+      there = subst (λ (ss : List Stretch). All (λ s. IsStretch c.args.columns s) ss) (sym c.in_ok-push.ensures.items) (All-push (λ s. IsStretch c.args.columns s) ss s c.loop-end.invariant.there from.there);
+      tie = ap written_out c.in_ok-push.ensures.items
+          ∙ cut_more stretch_columns ss s tie c.loop-end.end s.count c.loop-end.invariant.tie (length-stretch_columns s) from.room (λ i low. get_or-stretch_columns s i low ∙ sym (from.columns i low));
+      longest = adjacent_push (λ t next. IsLongest t next.column) ss c.push.new.self.items s c.in_ok-push.ensures.items c.loop-end.invariant.longest
+          (λ k d h. subst (IsLongest (get_or ss k d)) (sym from.first) (c.loop-end.invariant.last k d h c.loop-end-test.true));
+      last = λ k d h below. subst (λ t. IsLongest t (get_or tie (c.loop-end.end + s.count) 0))
+          (sym (ap (λ xs. get_or xs k d) c.in_ok-push.ensures.items ∙ get_or_push ss s d k (omega (arith, h, ap length c.in_ok-push.ensures.items, length_push ss s)))) (from.longest below);
+    }
