@@ -1,0 +1,10 @@
+pub mod Directories
+pub mod Fields
+pub mod Images
+pub mod inner
+pub mod Layouts
+pub mod Numbers
+pub mod Pixels
+pub mod Rules
+pub mod Texts
+pub mod Written
