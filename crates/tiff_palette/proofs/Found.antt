@@ -1,7 +1,9 @@
 -- The image of a file whose parts are known.
-use Rattle.std.proofs.Common.{◌≡◌, ◌≤◌, ◌<◌, ◌∙◌, sym, ap, subst, refl, ℕ, ◌+◌, ◌*◌, ◌/◌, ◌%◌, List, [], ◌∷◌, length, slice_index, None, slice_get, arith}
-use Rattle.std.proofs.Math.Nat.{mul_comm, mul-le-mul, mod-lt, div-lt_iff_lt-mul}
-use Rattle.std.proofs.lemmas.Nat.{div-add-mod'}
+use Rattle.std.proofs.Common.{◌≡◌, ◌≤◌, ◌<◌, ◌∙◌, sym, ap, subst, refl, ℕ, zero, suc, ◌+◌, ◌*◌, ◌/◌, ◌%◌, List, [], ◌∷◌, length, map, slice_index, None, slice_get, arith}
+use Rattle.std.proofs.Math.Nat.{mul_comm, mul-le-mul, mod-lt, zero-mul, div-lt_iff_lt-mul, mul-add-mod_self_right, mod-eq_of_lt}
+use Rattle.std.proofs.lemmas.List.FromFn.{length-map-range_with_len, get_or-map-range_with_len}
+use Rattle.std.specs.List.{range_with_len}
+use Rattle.std.proofs.lemmas.Nat.{div-add-mod', div-mul-add, mul-add-lt}
 use Rattle.mill_base.specs.Limits.{IsWithin}
 use Rattle.std.proofs.lemmas.Grind.{same_number_lists}
 use Rattle.mill_base.specs.declared.limits.TheConstants.{MAX_COLUMNS, MAX_PICKS, MAX_COLOURS}
@@ -10,7 +12,7 @@ use Rattle.tiff_palette.specs.declared.image.PaletteImage.{PaletteImage}
 use Rattle.tiff_palette.specs.declared.layout.Layout.{Layout}
 use Rattle.tiff_palette.specs.Images.{Image}
 use Rattle.tiff_palette.specs.Layouts.{layout_of}
-use Rattle.tiff_palette.specs.Pixels.{shade_of}
+use Rattle.tiff_palette.specs.Pixels.{pixel_of, shade_of}
 use Rattle.tiff_palette.specs.Rules.{all_faults, image_fault}
 use Rattle.tiff_palette.specs.Written.{IsWritable}
 use Rattle.tiff_palette.specs.inner.Drawings.{HasRows}
@@ -20,7 +22,7 @@ image_with width height pixels colour_map = record { width = width; height = hei
 
 -- the colours of a file's map
 abbrev pub HasMap : Layout → List ℕ → List ℕ → Type 0
-HasMap l bytes colours = (part k : ℕ) → part < 3 → k < MAX_COLOURS → slice_index colours (MAX_COLOURS * part + k) ≡ shade_of l.bits bytes part k
+HasMap l bytes colours = (part k : ℕ) → part < 3 → k < MAX_COLOURS → slice_index colours (part * MAX_COLOURS + k) ≡ shade_of l.bits bytes part k
 
 abbrev IsReadAs : List ℕ → Layout → List ℕ → List ℕ → List ℕ → Type 0
 IsReadAs bytes l file pixels colours =
@@ -55,10 +57,6 @@ writable_found bytes pixels colours l wide tall rows long =
       mapped = long;
     }
 
--- an image has no fault
-pub no_fault : (bytes : List ℕ) (image : PaletteImage) → Image bytes image → image_fault bytes ≡ None
-no_fault bytes image x = x.sound
-
 same_image : (a b : PaletteImage) → a.width ≡ b.width → a.height ≡ b.height → a.pixels ≡ b.pixels → a.colour_map ≡ b.colour_map → a ≡ b
 same_image a b w h p m =
     ap (λ (x : ℕ). image_with x a.height a.pixels a.colour_map) w ∙ ap (λ (x : ℕ). image_with b.width x a.pixels a.colour_map) h
@@ -66,7 +64,8 @@ same_image a b w h p m =
 
 -- a place of a list of rows is one of a column and a row
 in_rows : (w h i : ℕ) → i < w * h → (i % w < w) × (i / w < h)
-in_rows w h i below = ?
+in_rows zero h i below = absurd (let none = zero-mul h in omega (arith, below, none))
+in_rows (suc w) h i below = (mod-lt i (omega arith), (div-lt_iff_lt-mul {k = suc w} {x = i} {y = h} (omega arith)).1 (let turned = mul_comm (suc w) h in omega (arith, below, turned)))
 
 -- two lists that agree at each place of each row
 same_by_rows : (w h : ℕ) (xs ys : List ℕ) → length xs ≡ w * h → length ys ≡ w * h → ((x y : ℕ) → x < w → y < h → slice_index xs (y * w + x) ≡ slice_index ys (y * w + x)) → xs ≡ ys
@@ -77,4 +76,53 @@ same_by_rows w h xs ys long also each = same_number_lists xs ys (long ∙ sym al
     ap (slice_index xs) (sym place) ∙ each (i % w) (i / w) there.0 there.1 ∙ ap (slice_index ys) place)
 
 pub one_image : (bytes : List ℕ) (a b : PaletteImage) → Image bytes a → Image bytes b → a ≡ b
-one_image bytes a b x y = same_image a b (x.width ∙ sym y.width) (x.height ∙ sym y.height) ? ?
+one_image bytes a b x y =
+    let wide : b.width ≡ a.width = y.width ∙ sym x.width in
+    let tall : b.height ≡ a.height = y.height ∙ sym x.height in
+    same_image a b (sym wide) (sym tall)
+    (same_by_rows a.width a.height a.pixels b.pixels x.drawn (y.drawn ∙ ap (λ (w : ℕ). w * b.height) wide ∙ ap (λ (h : ℕ). a.width * h) tall)
+    (λ column row within below.
+    x.pixels column row within below ∙ sym (y.pixels column row (omega (arith, within, wide)) (omega (arith, below, tall)))
+    ∙ ap (λ (w : ℕ). slice_index b.pixels (row * w + column)) wide))
+    (same_by_rows MAX_COLOURS 3 a.colour_map b.colour_map x.mapped y.mapped (λ k part within below. x.colours part k below within ∙ sym (y.colours part k below within)))
+
+-- a list by its places
+listed : (ℕ → ℕ) → ℕ → List ℕ
+listed f n = map f (range_with_len 0 n)
+
+length-listed : (f : ℕ → ℕ) (n : ℕ) → length (listed f n) ≡ n
+unfolding listed
+length-listed f n = length-map-range_with_len f 0 n
+
+get_or-listed : (f : ℕ → ℕ) (n k : ℕ) → k < n → slice_index (listed f n) k ≡ f k
+unfolding listed
+get_or-listed f n k below = get_or-map-range_with_len f 0 n k k 0 below (omega arith)
+
+-- what stands in a column and a row of a list that is made of rows
+by_rows : (g : ℕ → ℕ → ℕ) (w h x y : ℕ) → x < w → y < h → slice_index (listed (λ i. g (i % w) (i / w)) (w * h)) (y * w + x) ≡ g x y
+by_rows g w h x y within below =
+    get_or-listed (λ i. g (i % w) (i / w)) (w * h) (y * w + x) (mul-add-lt y w x h below within)
+    ∙ ap (λ (k : ℕ). g k ((y * w + x) / w)) (mul-add-mod_self_right y w x ∙ mod-eq_of_lt within) ∙ ap (g x) (div-mul-add y w x within)
+
+none_first : (faults : List TiffFault) → slice_get faults 0 ≡ None → faults ≡ []
+none_first [] e = refl
+none_first (f ∷ fs) e = absurd (cc)
+
+pub some_image : (bytes : List ℕ) → image_fault bytes ≡ None → (image : PaletteImage) × Image bytes image
+some_image bytes e =
+    let l = layout_of bytes in
+    let pixel : ℕ → ℕ → ℕ = pixel_of l bytes in
+    let pixels = listed (λ i. pixel (i % l.width) (i / l.width)) (l.width * l.height) in
+    let shade : ℕ → ℕ → ℕ = λ k part. shade_of l.bits bytes part k in
+    let colours = listed (λ i. shade (i % MAX_COLOURS) (i / MAX_COLOURS)) (MAX_COLOURS * 3) in (
+      image_with l.width l.height pixels colours,
+      record {
+        sound = e;
+        width = refl;
+        height = refl;
+        drawn = length-listed (λ i. pixel (i % l.width) (i / l.width)) (l.width * l.height);
+        pixels = λ x y within below. by_rows pixel l.width l.height x y within below;
+        mapped = length-listed (λ i. shade (i % MAX_COLOURS) (i / MAX_COLOURS)) (MAX_COLOURS * 3);
+        colours = λ part k below within. by_rows shade MAX_COLOURS 3 k part within below;
+      },
+    )

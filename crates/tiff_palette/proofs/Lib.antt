@@ -4,3 +4,10 @@ pub mod Entries
 pub mod Places
 pub mod Drawn
 pub mod Found
+pub mod Pushes
+pub mod Arrays
+pub mod Heads
+pub mod Coded
+pub mod Codec
+pub mod Returning
+pub mod Codecs

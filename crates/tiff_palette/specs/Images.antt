@@ -14,4 +14,4 @@ pub record Image (bytes : List ℕ) (image : PaletteImage) : Type 0 where
   pub drawn : length image.pixels ≡ image.width * image.height
   pub pixels : (x y : ℕ) → x < image.width → y < image.height → slice_index image.pixels (y * image.width + x) ≡ pixel_of (layout_of bytes) bytes x y
   pub mapped : length image.colour_map ≡ 3 * MAX_COLOURS
-  pub colours : (part k : ℕ) → part < 3 → k < MAX_COLOURS → slice_index image.colour_map (MAX_COLOURS * part + k) ≡ shade_of (layout_of bytes).bits bytes part k
+  pub colours : (part k : ℕ) → part < 3 → k < MAX_COLOURS → slice_index image.colour_map (part * MAX_COLOURS + k) ≡ shade_of (layout_of bytes).bits bytes part k

@@ -23,4 +23,4 @@ pixel_of l bytes x y = pixel_at l bytes (row_place l bytes y) x
 
 -- the red (part 0), green (1) or blue (2) of colour k: the map has all reds, all greens, all blues, of 2^bits colours; any other colour is 0
 unfoldable pub shade_of : ℕ → List ℕ → ℕ → ℕ → ℕ
-shade_of bits bytes part k = if nat_lt k (2 ^ bits) then value_of COLOR_MAP (2 ^ bits * part + k) bytes else 0
+shade_of bits bytes part k = if nat_lt k (2 ^ bits) then value_of COLOR_MAP (part * 2 ^ bits + k) bytes else 0

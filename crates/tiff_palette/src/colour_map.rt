@@ -15,7 +15,7 @@ const MAP_LENGTH: usize = 3 * MAX_COLOURS as usize;
 pub fn read_map(alloc: Global, palette: &Palette<'_>) -> Result<Vec<u16>, OutOfMemory>
     ensures length { IfOk result (λ v. length v.items ≡ 3 * MAX_COLOURS) }
     ensures colours { IfOk result (λ v. (part k : ℕ) → part < 3 → k < MAX_COLOURS
-        → slice_index v.items (MAX_COLOURS * part + k) ≡ shade_of palette.now.strips.layout.bits palette.now.strips.offsets.bytes.now part k) }
+        → slice_index v.items (part * MAX_COLOURS + k) ≡ shade_of palette.now.strips.layout.bits palette.now.strips.offsets.bytes.now part k) }
 {
     let mut colours = Vec::with_capacity(alloc, MAP_LENGTH)?;
     for i in 0..MAP_LENGTH {
@@ -37,5 +37,5 @@ fn shade(palette: &Palette<'_>, part: usize, colour: usize) -> u16
     if colours <= colour {
         return 0;
     }
-    palette.colour_map.get_short(colours * part + colour)
+    palette.colour_map.get_short(part * colours + colour)
 }

@@ -35,7 +35,7 @@ pub const COLOURS: u32 = 174;
 pub const LISTS: u32 = 1710;
 
 /// The file of an image, in one vector of its size. (TIFF 6.0; the layout is this project's own.)
-#[tactic(auto, unfolding(crate::specs::Written::tiff_of))]
+#[tactic(auto, unfolding(crate::specs::Written::tiff_of), using(crate::proofs::Pushes::strips_few))]
 pub fn write(alloc: Global, image: &PaletteImage) -> Result<Vec<u8>, OutOfMemory>
     requires { IsWritable image.now }
     ensures file { IfOk result (λ v. v.items ≡ tiff_of image.now) }
@@ -158,7 +158,7 @@ fn push_head(out: &mut Vec<u8>, layout: &Layout, strips: u32) -> Result<(), OutO
     push_long(out, 1)
 }
 
-#[tactic(auto)]
+#[tactic(auto, using(crate::proofs::Pushes::taken_more))]
 fn push_colours(out: &mut Vec<u8>, colours: &[u16]) -> Result<(), OutOfMemory>
     ensures { OnOk result (out.new.items ≡ out.old.items ++ flat_map (little_bytes 2) colours.now) }
 {
@@ -181,7 +181,7 @@ fn push_lists(out: &mut Vec<u8>, layout: &Layout, strips: u32) -> Result<(), Out
     push_counts(out, layout, strips)
 }
 
-#[tactic(auto)]
+#[tactic(auto, using(crate::proofs::Pushes::mapped_more))]
 fn push_offsets(out: &mut Vec<u8>, layout: &Layout, strips: u32) -> Result<(), OutOfMemory>
     requires strips { strips ≡ strips_of layout.now }
     requires cut { IsCut layout.now }
@@ -204,7 +204,7 @@ fn strip_offset(layout: &Layout, strips: u32, strip: u32) -> u32
     pixels_place(strips) as u32 + above * layout.width
 }
 
-#[tactic(auto)]
+#[tactic(auto, using(crate::proofs::Pushes::mapped_more))]
 fn push_counts(out: &mut Vec<u8>, layout: &Layout, strips: u32) -> Result<(), OutOfMemory>
     requires cut { IsCut layout.now }
     ensures { OnOk result (out.new.items ≡ out.old.items ++ flat_map (little_bytes 4) (map (strip_bytes layout.now) (range_with_len 0 strips))) }
