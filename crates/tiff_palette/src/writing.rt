@@ -1,5 +1,5 @@
 //! Writing an image as a file.
-ghost use Rattle.std.specs.Prelude.{◌≡◌, ◌≤◌, ◌<◌, ◌+◌, ◌*◌, ◌++◌, [], map, IfOk, OnOk};
+ghost use Rattle.std.specs.Prelude.{◌≡◌, ◌≤◌, ◌<◌, ◌+◌, ◌*◌, ◌++◌, ◌^◌, [], map, All, IfOk, OnOk};
 ghost use Rattle.std.specs.List.{flat_map, range_with_len};
 ghost use Rattle.byteorder.specs.Endian.{little_bytes};
 ghost use Rattle.mill_base.specs.declared.limits.TheConstants.{MAX_CLOTH_CELLS};
@@ -160,7 +160,8 @@ fn push_head(out: &mut Vec<u8>, layout: &Layout, strips: u32) -> Result<(), OutO
 
 #[tactic(auto, using(crate::proofs::Pushes::taken_more))]
 fn push_colours(out: &mut Vec<u8>, colours: &[u16]) -> Result<(), OutOfMemory>
-    ensures { OnOk result (out.new.items ≡ out.old.items ++ flat_map (little_bytes 2) colours.now) }
+    ensures numbers { OnOk result (out.new.items ≡ out.old.items ++ flat_map (little_bytes 2) colours.now) }
+    ensures short { OnOk result (All (λ n. n < 2 ^ 16) colours.now) }
 {
     for colour in colours {
         push_short(out, *colour)?;

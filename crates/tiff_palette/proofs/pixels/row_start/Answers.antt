@@ -17,7 +17,7 @@ get-first-requires c =
 place_is : (c : goal.After-row_bytes) → c.get-first.result + c.args.y % c.args.strips.now.layout.rows_per_strip * c.row_bytes.result
     ≡ row_place c.args.strips.now.layout c.args.strips.now.offsets.bytes.now c.args.y
 unfolding row_place
-place_is c = 
+place_is c =
     let s = c.args.strips.now in
     ap (λ (m : ℕ). m + c.args.y % s.layout.rows_per_strip * c.row_bytes.result) (c.get-first.ensures ∙ sym (value_is s.offsets.bytes.now STRIP_OFFSETS (c.args.y / s.layout.rows_per_strip) s.offsets.entry s.told))
     ∙ ap (λ (m : ℕ). value_of STRIP_OFFSETS (c.args.y / s.layout.rows_per_strip) s.offsets.bytes.now + c.args.y % s.layout.rows_per_strip * m) c.row_bytes.ensures
