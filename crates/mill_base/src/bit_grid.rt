@@ -102,7 +102,8 @@ impl BitGrid {
     pub fn transpose_into(&self, out: &mut BitGrid)
         requires width { out.old.width ≡ length self.now.rows }
         requires height { length out.old.rows ≡ self.now.width }
-        ensures { out.new ≡ transposed self.now }
+        ensures columns { out.new ≡ transposed self.now }
+        ensures height { length out.new.rows ≡ self.now.width }
     {
         grid_blocks::turn(&self.rows, self.height(), &mut out.rows);
     }
@@ -142,3 +143,6 @@ fn same_rows(one: &[BitRow], other: &[BitRow]) -> bool
     }
     true
 }
+
+#[cfg(test)]
+mod tests;
