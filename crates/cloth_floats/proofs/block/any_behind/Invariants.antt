@@ -1,0 +1,15 @@
+use Rattle.std.proofs.Common.{◌≡◌, ◌+◌, ◌-◌, ◌<◌, ◌≤◌, length}
+use Rattle.mill_base.specs.Below.{any_below}
+use Rattle.mill_base.specs.Blocks.{line_by}
+use Rattle.mill_base.specs.Lines.{cell_round}
+use Rattle.cloth_floats.proofs.block.any_behind.Given as goal
+
+abbrev pub invariant-loop-width : goal.invariant-loop-width
+invariant-loop-width l = record {
+  some : 0 < l.width;
+  within : l.width ≤ l.count;
+  found : l.found ≡ line_by (length l.fn.cells) (λ k. any_below (λ i. cell_round l.fn.cells (k + length l.fn.cells - i)) l.width);
+}
+
+abbrev pub decreases-loop-width : goal.decreases-loop-width
+decreases-loop-width l = l.count - l.width
