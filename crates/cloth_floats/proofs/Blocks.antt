@@ -1,31 +1,27 @@
 -- Windows of a line in a block.
 use Rattle.std.specs.Prelude.{pos}
 use Rattle.std.proofs.Common.{IsTrue, ◌↔◌, replicate, cond, ◌≡◌, ℕ, zero, suc, ◌+◌, ◌-◌, ◌*◌, ◌/◌, ◌%◌, ◌<◌, ◌≤◌, Bool, true, false, ◌&&◌, ◌||◌, List, length, get_or, refl, sym, ap, ◌∙◌, ⊎_elim, arith}
-use Rattle.std.proofs.lemmas.List.{ext_get_or, length-replicate, get_or-replicate}
+use Rattle.std.proofs.lemmas.List.{length-replicate, get_or-replicate}
 use Rattle.std.proofs.lemmas.Bool.{cases_Bool, ltb-true, not_from_true}
 use Rattle.std.proofs.lemmas.Nat.{mod_below}
 use Rattle.std.proofs.Math.Nat.{div-add-mod}
 use Rattle.mill_base.specs.Below.{any_below, all_below}
-use Rattle.mill_base.specs.Blocks.{line_by, same}
+use Rattle.mill_base.specs.Lines.{line_by, same}
 use Rattle.mill_base.specs.Lines.{cell_round, cell_at}
 use Rattle.cloth_floats.specs.Cells.{limit_of}
 use Rattle.cloth_floats.specs.Floats.{is_uniform, length_at}
-use Rattle.cloth_floats.specs.Windows.{is_long_over, long_of}
-use Rattle.mill_base.proofs.lemmas.Blocks.{length-line_by, get_or-line_by}
-use Rattle.cloth_floats.proofs.Belows.{any_alike, all_alike, all_each, all_at}
-use Rattle.cloth_floats.proofs.Doubling.{both_ways, all_further, any_further}
-use Rattle.cloth_floats.proofs.Rounds.{same_cell, cell_here, same-refl, same_is, past_is}
+use Rattle.cloth_floats.specs.Windows.{is_long_over, is_long, long_of}
+use Rattle.mill_base.proofs.lemmas.Lines.{length-line_by, get_or-line_by, line_is}
+use Rattle.mill_base.proofs.lemmas.Belows.{true_together, any_alike, all_alike, all_each, all_at}
+use Rattle.cloth_floats.proofs.Doubling.{all_doubled, any_doubled}
+use Rattle.mill_base.proofs.lemmas.RoundLines.{same_cell, cell_here, past_is}
+use Rattle.cloth_floats.proofs.Sames.{same-refl, same_is}
 use Rattle.cloth_floats.proofs.Lengths.{uniform_cells, uniform_where_none, ends_within}
 use Rattle.cloth_floats.proofs.Places.{within_turns, windows_at_places, cell_from}
 use Rattle.cloth_floats.proofs.Long.{long_on_uniform, short_inside}
 use Rattle.cloth_floats.proofs.Law.{through_each}
-use Rattle.cloth_floats.proofs.Walks.{long_list}
 
--- a line by a formula of its cells is the line of another, where these agree
-pub line_by-alike : (line : List Bool) (n : ℕ) (g : ℕ → Bool) → length line ≡ n → ((k : ℕ) → k < n → get_or line k false ≡ g k) → line ≡ line_by n g
-line_by-alike line n g long each = ext_get_or false line (line_by n g) (long ∙ sym (length-line_by n g))
-    (λ k h. let below : k < n = omega arith in each k below ∙ sym (get_or-line_by n g k false below))
-
+-- a cell of a line by a formula, at any place
 pub cell_round-line_by : (n : ℕ) (f : ℕ → Bool) (x : ℕ) → 0 < n → cell_round (line_by n f) x ≡ f (x % n)
 cell_round-line_by n f x some =
     ap (λ m. get_or (line_by n f) (x % m) false) (length-line_by n f) ∙ get_or-line_by n f (x % n) false (mod_below x n some)
@@ -38,11 +34,11 @@ same_place line x j =
 
 -- a line is the stretch of one cell, ahead or behind
 pub ahead_one : (cells : List Bool) → cells ≡ line_by (length cells) (λ k. all_below (λ j. cell_round cells (k + j)) 1)
-ahead_one cells = line_by-alike cells (length cells) (λ k. all_below (λ j. cell_round cells (k + j)) 1) refl
+ahead_one cells = line_is false cells (length cells) (λ k. all_below (λ j. cell_round cells (k + j)) 1) refl
     (λ k h. sym (cell_here cells k h) ∙ ap (cell_round cells) (omega arith))
 
 pub behind_one : (cells : List Bool) → cells ≡ line_by (length cells) (λ k. any_below (λ i. cell_round cells (k + length cells - i)) 1)
-behind_one cells = line_by-alike cells (length cells) (λ k. any_below (λ i. cell_round cells (k + length cells - i)) 1) refl
+behind_one cells = line_is false cells (length cells) (λ k. any_below (λ i. cell_round cells (k + length cells - i)) 1) refl
     (λ k h. sym (cell_here cells k h) ∙ same_cell cells k (k + length cells - 0) 1 0 (omega arith))
 
 -- the stretch ahead is longer by `by`
@@ -54,7 +50,7 @@ ahead_further cells found new width by some less is grown =
     let n = length cells in
     let f = λ (k : ℕ). all_below (λ j. cell_round cells (k + j)) width in
     let long : length found ≡ n = ap length is ∙ length-line_by n f in
-    line_by-alike new n (λ k. all_below (λ j. cell_round cells (k + j)) (width + by)) (ap length grown ∙ length-line_by (length found) _ ∙ long)
+    line_is false new n (λ k. all_below (λ j. cell_round cells (k + j)) (width + by)) (ap length grown ∙ length-line_by (length found) _ ∙ long)
     (λ k h.
     ap (λ xs. get_or xs k false) grown ∙ get_or-line_by (length found) (λ k. get_or found k false && cell_round found (k + by)) k false (omega arith)
     ∙ ap (λ xs. get_or xs k false && cell_round xs (k + by)) is
@@ -62,7 +58,7 @@ ahead_further cells found new width by some less is grown =
     ∙ ap (λ b. f k && b) (cell_round-line_by n f (k + by) some
     ∙ all_alike (λ j. cell_round cells ((k + by) % n + j)) (λ j. cell_round cells (k + (by + j))) width
     (λ j _. same_place cells (k + by) j ∙ ap (cell_round cells) (omega arith)))
-    ∙ all_further (λ j. cell_round cells (k + j)) width by less)
+    ∙ all_doubled (λ j. cell_round cells (k + j)) width by less)
 
 -- the stretch behind is longer by `by`
 pub behind_further : (cells found new : List Bool) (width by : ℕ) → width + by ≤ length cells → 0 < width → by ≤ width
@@ -73,7 +69,7 @@ behind_further cells found new width by within some less is grown =
     let n = length cells in
     let f = λ (k : ℕ). any_below (λ i. cell_round cells (k + n - i)) width in
     let long : length found ≡ n = ap length is ∙ length-line_by n f in
-    line_by-alike new n (λ k. any_below (λ i. cell_round cells (k + n - i)) (width + by)) (ap length grown ∙ length-line_by (length found) _ ∙ long)
+    line_is false new n (λ k. any_below (λ i. cell_round cells (k + n - i)) (width + by)) (ap length grown ∙ length-line_by (length found) _ ∙ long)
     (λ k h.
     ap (λ xs. get_or xs k false) grown ∙ get_or-line_by (length found) (λ k. get_or found k false || cell_round found (k + length found - by)) k false (omega arith)
     ∙ ap (λ m. get_or found k false || cell_round found (k + m - by)) long
@@ -84,11 +80,11 @@ behind_further cells found new width by within some less is grown =
     (λ i below.
     let start : (k + n - by) % n + n - i ≡ (k + n - by) % n + (n - i) = omega arith in
     ap (cell_round cells) start ∙ same_place cells (k + n - by) (n - i) ∙ same_cell cells (k + n - by + (n - i)) (k + n - (by + i)) 0 1 (omega arith)))
-    ∙ any_further (λ i. cell_round cells (k + n - i)) width by less)
+    ∙ any_doubled (λ i. cell_round cells (k + n - i)) width by less)
 
 -- cells that equal one of them, each, are cells that equal their next, each
 pub chain_from : (f : ℕ → Bool) (m i : ℕ) → i ≤ m → all_below (λ j. same (f j) (f (j + 1))) m ≡ all_below (λ j. same (f i) (f j)) (m + 1)
-chain_from f m i h = both_ways (all_below (λ j. same (f j) (f (j + 1))) m) (all_below (λ j. same (f i) (f j)) (m + 1))
+chain_from f m i h = true_together (all_below (λ j. same (f j) (f (j + 1))) m) (all_below (λ j. same (f i) (f j)) (m + 1))
     (λ nexts. all_each (λ j. same (f i) (f j)) (m + 1) (λ j below. same-refl (f i) (f j) (from_first nexts i h ∙ sym (from_first nexts j (omega arith)))))
     (λ all. all_each (λ j. same (f j) (f (j + 1))) m (λ j below. same-refl (f j) (f (j + 1))
     (sym (same_is (f i) (f j) (all_at (λ j. same (f i) (f j)) (m + 1) j all (omega arith)))
@@ -119,7 +115,7 @@ long_in_block line nexts windows long limit less nexts_are windows_are long_is =
     let next_len : length nexts ≡ n = ap length nexts_are ∙ length-line_by n _ in
     let window_len : length windows ≡ n = ap length windows_are ∙ length-line_by (length nexts) _ ∙ next_len in
     let far : limit ≤ n * limit = within_turns n limit some in
-    line_by-alike long n (is_long_over line limit) (ap length long_is ∙ length-line_by (length windows) _ ∙ window_len)
+    line_is false long n (is_long_over line limit) (ap length long_is ∙ length-line_by (length windows) _ ∙ window_len)
     (λ k h.
     ap (λ xs. get_or xs k false) long_is
     ∙ get_or-line_by (length windows) (λ k. any_below (λ i. cell_round windows (k + length windows - i)) (limit + 1)) k false (omega arith)
@@ -141,7 +137,7 @@ long_in_block line nexts windows long limit less nexts_are windows_are long_is =
 -- all cells equal their next exactly where all are equal
 pub all_nexts : (line nexts : List Bool) (all : Bool) → 0 < length line → nexts ≡ line_by (length line) (λ k. same (get_or line k false) (cell_round line (k + 1)))
     → IsTrue all ↔ ((k : ℕ) → k < length nexts → get_or nexts k false ≡ true) → all ≡ is_uniform line
-all_nexts line nexts all some are test = both_ways all (is_uniform line)
+all_nexts line nexts all some are test = true_together all (is_uniform line)
     (λ yes. uniform_where_none line (λ x h.
     let y = x + length line - 1 in
     not_from_true (same (cell_round line (x + length line - 1)) (cell_round line x))
@@ -171,7 +167,7 @@ pub long_if_all : (line nexts long : List Bool) (limit : ℕ) (all : Bool) → 0
     → IsTrue all ↔ ((k : ℕ) → k < length nexts → get_or nexts k false ≡ true)
     → long ≡ replicate (length line) all → long ≡ line_by (length line) (is_long_over line limit)
 long_if_all line nexts long limit all some far are test is =
-    line_by-alike long (length line) (is_long_over line limit) (ap length is ∙ length-replicate (length line) all)
+    line_is false long (length line) (is_long_over line limit) (ap length is ∙ length-replicate (length line) all)
     (λ k h. ap (λ xs. get_or xs k false) is ∙ get_or-replicate (length line) k all false h ∙ all_nexts line nexts all some are test ∙ long_past_length line limit k h far)
 
 -- the answer by the limit of each cell
@@ -180,7 +176,7 @@ pub long_chosen : (line lifted_long unlifted_long long : List Bool) (lifted unli
     → long ≡ line_by (length line) (λ k. cond (get_or line k false) (get_or lifted_long k false) (get_or unlifted_long k false))
     → long ≡ long_of line lifted unlifted
 long_chosen line lifted_long unlifted_long long lifted unlifted lifted_is unlifted_is is =
-    long_list line long lifted unlifted (ap length is ∙ length-line_by (length line) _)
+    line_is false long (length line) (is_long line lifted unlifted) (ap length is ∙ length-line_by (length line) _)
     (λ k h.
     ap (λ xs. get_or xs k false) is
     ∙ get_or-line_by (length line) (λ k. cond (get_or line k false) (get_or lifted_long k false) (get_or unlifted_long k false)) k false h
@@ -194,7 +190,7 @@ long_chosen line lifted_long unlifted_long long lifted unlifted lifted_is unlift
 
 pub long_alike : (line long : List Bool) (lifted unlifted : ℕ) → lifted ≡ unlifted → long ≡ line_by (length line) (is_long_over line unlifted) → long ≡ long_of line lifted unlifted
 long_alike line long lifted unlifted e is =
-    long_list line long lifted unlifted (ap length is ∙ length-line_by (length line) _)
+    line_is false long (length line) (is_long line lifted unlifted) (ap length is ∙ length-line_by (length line) _)
     (λ k h. ap (λ xs. get_or xs k false) is ∙ get_or-line_by (length line) (is_long_over line unlifted) k false h
     ∙ ap (λ m. is_long_over line m k) (sym (either (cell_at line (pos k))))) where
       either : (cell : Bool) → limit_of lifted unlifted cell ≡ unlifted

@@ -1,7 +1,7 @@
 //! Long positions by whole words: windows of equal cells, and the positions that lie in one.
 ghost use Rattle.std.specs.Prelude.{◌≡◌, ℕ, ◌+◌, ◌-◌, ◌<◌, ◌≤◌, false, length, slice_index_or};
 ghost use Rattle.mill_base.specs.Below.{any_below, all_below};
-ghost use Rattle.mill_base.specs.Blocks.{line_by};
+ghost use Rattle.mill_base.specs.Lines.{line_by};
 ghost use Rattle.mill_base.specs.Lines.{cell_round};
 ghost use Rattle.mill_base.specs.declared.limits.TheConstants.{MAX_ENDS};
 ghost use Rattle.cloth_floats.specs.Windows.{is_long_over, long_of};

@@ -1,12 +1,7 @@
--- Blocks of words that hold a cyclic line, and lines that are made of one.
-use Rattle.std.specs.Prelude.{◌≡◌, ℕ, ◌+◌, ◌-◌, ◌*◌, ◌/◌, ◌≤◌, ◌<◌, ◌||◌, Bool, true, false, not, List}
+-- Blocks of words that hold a cyclic line.
+use Rattle.std.specs.Prelude.{◌≡◌, ℕ, ◌+◌, ◌-◌, ◌*◌, ◌/◌, ◌≤◌, ◌<◌, ◌||◌, Bool, false, List}
 use Rattle.mill_base.specs.Bits.{bit_of}
 use Rattle.mill_base.specs.declared.limits.TheConstants.{MAX_ENDS}
-
--- two truth values are the same
-abbrev pub same : Bool → Bool → Bool
-same true b = b
-same false b = not b
 
 -- the words hold a line of n cells, which is not empty, and every bit past it is clear
 pub record IsBlock (words : List ℕ) (n : ℕ) : Type 0 where

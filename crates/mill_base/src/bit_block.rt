@@ -1,7 +1,6 @@
 //! A cyclic line of truth values in a fixed block of words.
 ghost use Rattle.std.specs.Prelude.{◌≡◌, ℕ, ◌+◌, ◌-◌, ◌<◌, ◌≤◌, ◌&&◌, ◌||◌, ◌↔◌, true, false, IsTrue, length, replicate, slice_index_or, if◌then◌else◌};
-ghost use Rattle.mill_base.specs.Blocks.{same};
-ghost use Rattle.mill_base.specs.Lines.{cell_round, line_by};
+ghost use Rattle.mill_base.specs.Lines.{cell_round, line_by, same};
 ghost use Rattle.mill_base.specs.declared.limits.TheConstants.{MAX_ENDS};
 
 use crate::bit_row::BitRow;

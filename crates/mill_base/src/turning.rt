@@ -6,7 +6,7 @@ ghost use Rattle.mill_base.specs.Blocks.{IsAgain};
 ghost use Rattle.mill_base.specs.inner.Stretches.{AreLaid};
 ghost use Rattle.mill_base.specs.inner.Turnings.{Turned};
 
-use crate::word::{bits_from, merged};
+use crate::word::{bits_from, low_bits, merged};
 
 /// The words of a block: as many as `MAX_ENDS` bits take.
 pub const WORDS: usize = 256;
@@ -42,15 +42,6 @@ pub fn filled(len: u32, value: bool) -> [u64; WORDS]
     words
 }
 
-/// The lowest bits of a word; the others are clear.
-fn lowest(word: u64, count: u32) -> u64
-    requires { count < 64 }
-    ensures below { (i : ℕ) → i < count → bit_at result i ≡ bit_at word i }
-    ensures past { (i : ℕ) → count ≤ i → bit_at result i ≡ 0 }
-{
-    word & ((1 << count) - 1)
-}
-
 /// Clears all words from one on.
 fn clear_words(words: &mut [u64], from: usize)
     ensures len { length words.new ≡ length words.old }
@@ -73,7 +64,7 @@ pub fn clear_past(words: &mut [u64], len: u32)
     let rest = len % 64;
     if rest > 0 {
         let last = (len / 64) as usize;
-        words[last] = lowest(words[last], rest);
+        words[last] = low_bits(words[last], rest);
     }
 }
 

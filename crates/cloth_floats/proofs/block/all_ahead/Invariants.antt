@@ -1,6 +1,6 @@
 use Rattle.std.proofs.Common.{◌≡◌, ◌+◌, ◌-◌, ◌<◌, ◌≤◌, length}
 use Rattle.mill_base.specs.Below.{all_below}
-use Rattle.mill_base.specs.Blocks.{line_by}
+use Rattle.mill_base.specs.Lines.{line_by}
 use Rattle.mill_base.specs.Lines.{cell_round}
 use Rattle.cloth_floats.proofs.block.all_ahead.Given as goal
 

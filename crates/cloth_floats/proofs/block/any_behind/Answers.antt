@@ -1,5 +1,5 @@
 use Rattle.std.proofs.Common.{◌≡◌, length, ap, ◌∙◌, arith}
-use Rattle.mill_base.proofs.lemmas.Blocks.{length-line_by}
+use Rattle.mill_base.proofs.lemmas.Lines.{length-line_by}
 use Rattle.cloth_floats.proofs.Blocks.{behind_one, behind_further}
 use Rattle.cloth_floats.proofs.block.any_behind.Goals as goal
 

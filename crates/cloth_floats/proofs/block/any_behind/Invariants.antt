@@ -1,6 +1,6 @@
 use Rattle.std.proofs.Common.{◌≡◌, ◌+◌, ◌-◌, ◌<◌, ◌≤◌, length}
 use Rattle.mill_base.specs.Below.{any_below}
-use Rattle.mill_base.specs.Blocks.{line_by}
+use Rattle.mill_base.specs.Lines.{line_by}
 use Rattle.mill_base.specs.Lines.{cell_round}
 use Rattle.cloth_floats.proofs.block.any_behind.Given as goal
 

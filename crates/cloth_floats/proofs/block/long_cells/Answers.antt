@@ -1,5 +1,5 @@
-use Rattle.std.proofs.Common.{◌≡◌, length, ap, ◌∙◌, sym, arith}
-use Rattle.mill_base.proofs.lemmas.Blocks.{length-line_by}
+use Rattle.std.proofs.Common.{length, ap, ◌∙◌, sym}
+use Rattle.mill_base.proofs.lemmas.Lines.{length-line_by}
 use Rattle.cloth_floats.proofs.Blocks.{long_chosen, long_alike}
 use Rattle.cloth_floats.proofs.block.long_cells.Goals as goal
 

@@ -1,5 +1,5 @@
 use Rattle.std.proofs.Common.{◌≡◌, length, ap, replicate, ◌∙◌, arith}
-use Rattle.mill_base.proofs.lemmas.Blocks.{length-line_by}
+use Rattle.mill_base.proofs.lemmas.Lines.{length-line_by}
 use Rattle.cloth_floats.proofs.Blocks.{long_in_block, long_if_all}
 use Rattle.cloth_floats.proofs.block.long_over.Goals as goal
 

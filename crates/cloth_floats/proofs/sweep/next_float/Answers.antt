@@ -1,4 +1,4 @@
-use Rattle.std.proofs.Common.{◌≡◌, ◌+◌, ◌<◌, ◌∙◌, ℕ, ap, sym, subst, arith}
+use Rattle.std.proofs.Common.{◌≡◌, ◌+◌, ◌∙◌, ap, arith}
 use Rattle.cloth_floats.specs.declared.Run.{Run}
 use Rattle.cloth_floats.specs.Floats.{float_at}
 use Rattle.cloth_floats.proofs.Indexed.{next_none, next_some, later}

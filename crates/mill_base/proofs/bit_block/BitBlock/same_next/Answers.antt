@@ -1,5 +1,5 @@
 use Rattle.std.proofs.Common.{◌∙◌, arith}
-use Rattle.mill_base.specs.Blocks.{same}
+use Rattle.mill_base.specs.Lines.{same}
 use Rattle.mill_base.proofs.lemmas.Blocks.{line_joined}
 use Rattle.mill_base.proofs.bit_block.BitBlock.same_next.Goals as goal
 
