@@ -258,3 +258,6 @@ kept_between a (suc n) (x ∷ xs) above below rising =
 pub rising_kept : (hooks : ℕ) (cast_out : List ℕ) → All (λ h. h < hooks) cast_out → IsStrictlyIncreasing cast_out → cast_out_hooks hooks cast_out ≡ cast_out
 unfolding cast_out_hooks
 rising_kept hooks cast_out there rising = kept_between 0 hooks cast_out (λ k d low. omega arith) (λ k d low. let h = there k d low in omega arith) (AllPairs-from_increasing cast_out rising)
+
+pub full_none : (hooks columns : ℕ) → columns ≤ hooks → casting_fault hooks [] columns ≡ None
+full_none hooks columns enough = rising_none hooks [] columns (All-nil (λ h. h < hooks)) (λ k low. absurd (omega (arith, low))) (omega arith)

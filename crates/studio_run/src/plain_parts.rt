@@ -40,6 +40,7 @@ fn straight_tie(alloc: Global, columns: u32) -> Result<Tie, OutOfMemory>
     requires columns { IsWithin 1 columns 4096 }
     ensures { IfOk result (λ tie. tie ≡ record { columns = columns; ends = tie_of [] columns }) }
 {
+    harness_ties::laws::no_section_is_the_straight_tie();
     match Tie::build(alloc, &[], columns) {
         Ok(tie) => Ok(tie),
         Err(fault) => match fault {
@@ -53,6 +54,7 @@ fn straight_tie(alloc: Global, columns: u32) -> Result<Tie, OutOfMemory>
 fn full_casting(alloc: Global, columns: u32) -> Result<Casting, OutOfMemory>
     ensures { IfOk result (λ casting. casting ≡ casting_of columns [] columns) }
 {
+    casting_out::laws::hooks_that_are_cast_out_leave_the_others();
     match Casting::build(alloc, columns, &[], columns) {
         Ok(casting) => Ok(casting),
         Err(fault) => match fault {
