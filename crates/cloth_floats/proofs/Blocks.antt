@@ -15,7 +15,7 @@ use Rattle.mill_base.proofs.lemmas.Lines.{length-line_by, get_or-line_by, line_i
 use Rattle.mill_base.proofs.lemmas.Belows.{true_together, any_alike, all_alike, all_each, all_at}
 use Rattle.cloth_floats.proofs.Doubling.{all_doubled, any_doubled}
 use Rattle.mill_base.proofs.lemmas.RoundLines.{same_cell, cell_here, past_is}
-use Rattle.cloth_floats.proofs.Sames.{same-refl, same_is}
+use Rattle.cloth_floats.proofs.Sames.{chain_from, same-refl, same_is}
 use Rattle.cloth_floats.proofs.Lengths.{uniform_cells, uniform_where_none, ends_within}
 use Rattle.cloth_floats.proofs.Places.{within_turns, windows_at_places, cell_from}
 use Rattle.cloth_floats.proofs.Long.{long_on_uniform, short_inside}
@@ -81,19 +81,6 @@ behind_further cells found new width by within some less is grown =
     let start : (k + n - by) % n + n - i ≡ (k + n - by) % n + (n - i) = omega arith in
     ap (cell_round cells) start ∙ same_place cells (k + n - by) (n - i) ∙ same_cell cells (k + n - by + (n - i)) (k + n - (by + i)) 0 1 (omega arith)))
     ∙ any_doubled (λ i. cell_round cells (k + n - i)) width by less)
-
--- cells that equal one of them, each, are cells that equal their next, each
-pub chain_from : (f : ℕ → Bool) (m i : ℕ) → i ≤ m → all_below (λ j. same (f j) (f (j + 1))) m ≡ all_below (λ j. same (f i) (f j)) (m + 1)
-chain_from f m i h = true_together (all_below (λ j. same (f j) (f (j + 1))) m) (all_below (λ j. same (f i) (f j)) (m + 1))
-    (λ nexts. all_each (λ j. same (f i) (f j)) (m + 1) (λ j below. same-refl (f i) (f j) (from_first nexts i h ∙ sym (from_first nexts j (omega arith)))))
-    (λ all. all_each (λ j. same (f j) (f (j + 1))) m (λ j below. same-refl (f j) (f (j + 1))
-    (sym (same_is (f i) (f j) (all_at (λ j. same (f i) (f j)) (m + 1) j all (omega arith)))
-    ∙ same_is (f i) (f (j + 1)) (all_at (λ j. same (f i) (f j)) (m + 1) (j + 1) all (omega arith))))) where
-      from_first : all_below (λ j. same (f j) (f (j + 1))) m ≡ true → (j : ℕ) → j ≤ m → f j ≡ f 0
-      from_first nexts zero below = refl
-      from_first nexts (suc j) below =
-          ap f (let e : suc j ≡ j + 1 = omega arith in e)
-          ∙ sym (same_is (f j) (f (j + 1)) (all_at (λ j. same (f j) (f (j + 1))) m j nexts (omega arith))) ∙ from_first nexts j (omega arith)
 
 -- a cell that equals its next, at any place
 pub next_cell : (line nexts : List Bool) (x : ℕ) → 0 < length line → nexts ≡ line_by (length line) (λ k. same (get_or line k false) (cell_round line (k + 1)))

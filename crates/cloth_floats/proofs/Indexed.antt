@@ -1,9 +1,11 @@
 -- The floats of a line by their place in the list.
-use Rattle.std.proofs.Common.{drop, ◌≡◌, ◌≢◌, ℕ, zero, suc, ◌+◌, ◌-◌, ◌<◌, ◌≤◌, Bool, true, false, List, [], ◌∷◌, length, ◌⊎◌, inl, inr, Option, Some, None, refl, sym, ap, ◌∙◌, subst, ⊎_elim, arith}
-use Rattle.std.specs.Prelude.{slice_get}
-use Rattle.std.proofs.lemmas.Bool.{cases_Bool, cases_eq}
+use Rattle.std.proofs.Common.{drop, ◌≡◌, ◌≢◌, ℕ, zero, suc, ◌+◌, ◌-◌, ◌<◌, ◌≤◌, Bool, true, false, List, [], ◌∷◌, length, get_or, ◌⊎◌, inl, inr, Option, Some, None, refl, sym, ap, ◌∙◌, subst, ⊎_elim, arith}
+use Rattle.std.specs.Prelude.{slice_get, All, IfSome}
+use Rattle.std.specs.List.{find}
+use Rattle.std.proofs.lemmas.Option.{slice_get-get_or}
+use Rattle.std.proofs.lemmas.Bool.{cases_Bool, cases_eq, cond-true, cond-false}
 use Rattle.cloth_floats.specs.declared.Run.{Run}
-use Rattle.cloth_floats.specs.Floats.{starts_at, length_at, is_uniform, float_at, endless_float, runs_of, IsFirstStart}
+use Rattle.cloth_floats.specs.Floats.{starts_at, length_at, is_uniform, float_at, endless_float, runs_of, is_over, first_long_of, IsFirstStart, IsOnLine}
 use Rattle.cloth_floats.proofs.Lengths.{length_is, start_behind, some_length}
 use Rattle.cloth_floats.proofs.Listed.{floats_in, floats_from, in_one, in_none, from_end, from_next, one_more, all_from_first, runs_uniform, runs_mixed}
 
@@ -79,12 +81,7 @@ run_at line i run is = ⊎_elim
       only uniform zero e = (uniform, refl, cc)
       only uniform (suc i) e = absurd (cc)
 
--- every float has its start on the line and at least one cell, and no more than the line
-pub record IsOnLine (line : List Bool) (run : Run) : Type 0 where
-  pub start : run.start < length line
-  pub some : 0 < run.length
-  pub within : run.length ≤ length line
-
+-- every float of the list is on the line
 pub on_line : (line : List Bool) (i : ℕ) (run : Run) → 0 < length line → slice_get (runs_of line) i ≡ Some run → IsOnLine line run
 on_line line i run some is = ⊎_elim
     (λ (whole : (is_uniform line ≡ true) × (i ≡ 0) × (run ≡ endless_float line)). subst (λ (r : Run). IsOnLine line r) (sym whole.2) (record { start = some; some = some; within = omega arith }))
@@ -157,3 +154,21 @@ drop_past (y ∷ ys) (suc i) is = drop_past ys i is
 abbrev pub positions_left : List Bool → Option Run → ℕ
 positions_left line None = 0
 positions_left line (Some run) = length line - run.start
+
+-- what holds at each place of a list holds of each of its items, and of the one that a search finds
+each_at : {A : Type 0} (P : A → Type 0) (xs : List A) → ((i : ℕ) (x : A) → slice_get xs i ≡ Some x → P x) → All P xs
+each_at P xs at k d h = at k (get_or xs k d) (slice_get-get_or xs k d h)
+
+found_one : {A : Type 0} (P : A → Type 0) (p : A → Bool) (xs : List A) → All P xs → IfSome (find p xs) P
+found_one P p [] all = tt
+found_one {A} P p (x ∷ xs) all = ⊎_elim
+    (λ (e : p x ≡ true). subst (λ (o : Option A). IfSome o P) (sym (cond-true (p x) (Some x) (find p xs) e)) (all 0 x (omega arith)))
+    (λ (e : p x ≡ false). subst (λ (o : Option A). IfSome o P) (sym (cond-false (p x) (Some x) (find p xs) e)) (found_one P p xs (λ k d h. all (suc k) d (omega arith))))
+    (cases_Bool (p x))
+
+pub all_on_line : (line : List Bool) → 0 < length line → All (IsOnLine line) (runs_of line)
+all_on_line line some = each_at (IsOnLine line) (runs_of line) (λ i run is. on_line line i run some is)
+
+pub first_on_line : (line : List Bool) (lifted unlifted : ℕ) → 0 < length line → IfSome (first_long_of line lifted unlifted) (IsOnLine line)
+unfolding first_long_of
+first_on_line line lifted unlifted some = found_one (IsOnLine line) (is_over lifted unlifted) (runs_of line) (all_on_line line some)

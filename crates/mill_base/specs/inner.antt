@@ -1,4 +1,5 @@
 -- What only contracts of private functions cite.
+pub mod Blocks
 pub mod Digits
 pub mod FirstBits
 pub mod GridBlocks

@@ -20,7 +20,7 @@ pub struct BitBlock {
 impl Model for BitBlock {
     ghost use Rattle.std.specs.Prelude.{List, Bool};
     ghost use Rattle.mill_base.specs.Bits.{bits_of};
-    ghost use Rattle.mill_base.specs.Blocks.{IsBlock};
+    ghost use Rattle.mill_base.specs.inner.Blocks.{IsBlock};
 
     ghost Value = { List Bool };
 

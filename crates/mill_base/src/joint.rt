@@ -1,7 +1,7 @@
 //! Words that are joined bit by bit.
 ghost use Rattle.std.specs.Prelude.{◌≡◌, ℕ, ◌<◌, ◌≤◌, ◌==◌, ◌&&◌, ◌||◌, Bool, length};
 ghost use Rattle.std.specs.Int.{bit_at};
-ghost use Rattle.mill_base.specs.Blocks.{AreJoined};
+ghost use Rattle.mill_base.specs.inner.Blocks.{AreJoined};
 ghost use Rattle.mill_base.specs.Lines.{same};
 
 /// A truth value made of two, for all bits of a word at once.

@@ -2,7 +2,7 @@
 ghost use Rattle.std.specs.Prelude.{◌≡◌, ℕ, ◌+◌, ◌-◌, ◌*◌, ◌/◌, ◌^◌, ◌<◌, ◌≤◌, ◌==◌, ◌||◌, false, length, if◌then◌else◌};
 ghost use Rattle.std.specs.Int.{bit_at};
 ghost use Rattle.mill_base.specs.Bits.{bit_of};
-ghost use Rattle.mill_base.specs.Blocks.{IsAgain};
+ghost use Rattle.mill_base.specs.inner.Blocks.{IsAgain};
 ghost use Rattle.mill_base.specs.inner.Stretches.{AreLaid};
 ghost use Rattle.mill_base.specs.inner.Turnings.{Turned};
 

@@ -9,7 +9,7 @@ use Rattle.std.proofs.lemmas.List.{get_or-replicate, length-replicate, get_or_pa
 use Rattle.std.proofs.lemmas.Nat.Bits.{bit_at_and, bit_at_xor, bit_at-lt, bit_at-zero}
 use Rattle.mill_base.specs.Bits.{bit_of, bits_of}
 use Rattle.mill_base.specs.inner.Stretches.{AreLaid}
-use Rattle.mill_base.specs.Blocks.{IsAgain}
+use Rattle.mill_base.specs.inner.Blocks.{IsAgain}
 use Rattle.mill_base.specs.inner.Turnings.{Turned}
 use Rattle.mill_base.specs.Lines.{cell_round, line_by, same}
 use Rattle.mill_base.proofs.lemmas.Lines.{length-line_by, get_or-line_by}

@@ -1,5 +1,5 @@
 use Rattle.std.proofs.Common.{◌≡◌, length}
-use Rattle.mill_base.specs.Blocks.{AreJoined}
+use Rattle.mill_base.specs.inner.Blocks.{AreJoined}
 use Rattle.mill_base.proofs.joint.join.Given as goal
 
 abbrev pub invariant-loop-index : goal.invariant-loop-index
