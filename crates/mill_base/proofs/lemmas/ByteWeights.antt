@@ -26,24 +26,12 @@ each_of_eight P a b c d e f g h (suc (suc (suc (suc (suc (suc zero)))))) n = g
 each_of_eight P a b c d e f g h (suc (suc (suc (suc (suc (suc (suc zero))))))) n = h
 each_of_eight P a b c d e f g h (suc (suc (suc (suc (suc (suc (suc (suc i)))))))) n = absurd (omega arith)
 
--- the bits of a sum of eight weights
-pub bit_of_sum : (g : ℕ → ℕ) → ((i : ℕ) → g i < 2) → (i : ℕ) → i < 8 → bit_at (sum (map (λ i. g i * 2 ^ (7 - i)) (range_with_len 0 8))) (7 - i) ≡ g i
-bit_of_sum g small =
-    let a = small 0 in
-    let b = small 1 in
-    let c = small 2 in
-    let d = small 3 in
-    let e = small 4 in
-    let f = small 5 in
-    let h = small 6 in
-    let k = small 7 in
-    each_of_eight (λ i. bit_at (sum (map (λ i. g i * 2 ^ (7 - i)) (range_with_len 0 8))) (7 - i) ≡ g i)
-    (omega (arith, a, b, c, d, e, f, h, k)) (omega (arith, a, b, c, d, e, f, h, k)) (omega (arith, a, b, c, d, e, f, h, k)) (omega (arith, a, b, c, d, e, f, h, k))
-    (omega (arith, a, b, c, d, e, f, h, k)) (omega (arith, a, b, c, d, e, f, h, k)) (omega (arith, a, b, c, d, e, f, h, k)) (omega (arith, a, b, c, d, e, f, h, k))
+abbrev weighed : (ℕ → ℕ) → ℕ
+weighed g = sum (map (λ i. g i * 2 ^ (7 - i)) (range_with_len 0 8))
 
--- a sum of eight weights is a byte
-pub sum_is_byte : (g : ℕ → ℕ) → ((i : ℕ) → g i < 2) → sum (map (λ i. g i * 2 ^ (7 - i)) (range_with_len 0 8)) < 256
-sum_is_byte g small =
+-- a sum of eight weights is a byte, whose bits are the weights'
+byte_of_weights : (g : ℕ → ℕ) → ((i : ℕ) → g i < 2) → (weighed g < 256) × ((i : ℕ) → i < 8 → bit_at (weighed g) (7 - i) ≡ g i)
+byte_of_weights g small =
     let a = small 0 in
     let b = small 1 in
     let c = small 2 in
@@ -51,5 +39,15 @@ sum_is_byte g small =
     let e = small 4 in
     let f = small 5 in
     let h = small 6 in
-    let k = small 7 in
-    omega (arith, a, b, c, d, e, f, h, k)
+    let k = small 7 in (
+      omega (arith, a, b, c, d, e, f, h, k),
+      each_of_eight (λ i. bit_at (weighed g) (7 - i) ≡ g i)
+          (omega (arith, a, b, c, d, e, f, h, k)) (omega (arith, a, b, c, d, e, f, h, k)) (omega (arith, a, b, c, d, e, f, h, k)) (omega (arith, a, b, c, d, e, f, h, k))
+          (omega (arith, a, b, c, d, e, f, h, k)) (omega (arith, a, b, c, d, e, f, h, k)) (omega (arith, a, b, c, d, e, f, h, k)) (omega (arith, a, b, c, d, e, f, h, k)),
+    )
+
+pub bit_of_sum : (g : ℕ → ℕ) → ((i : ℕ) → g i < 2) → (i : ℕ) → i < 8 → bit_at (sum (map (λ i. g i * 2 ^ (7 - i)) (range_with_len 0 8))) (7 - i) ≡ g i
+bit_of_sum g small = (byte_of_weights g small).1
+
+pub sum_is_byte : (g : ℕ → ℕ) → ((i : ℕ) → g i < 2) → sum (map (λ i. g i * 2 ^ (7 - i)) (range_with_len 0 8)) < 256
+sum_is_byte g small = (byte_of_weights g small).0

@@ -1,100 +1,82 @@
 -- Stretches of bits that are swapped within a word.
-use Rattle.std.proofs.Common.{◌≡◌, ◌+◌, ◌-◌, ◌*◌, ◌/◌, ◌%◌, ◌^◌, ◌<◌, ◌≤◌, ◌==◌, ℕ, Bool, true, false, refl, ap, ◌∙◌, ⊎_elim, cond, bit_or, bit_and, arith}
+use Rattle.std.proofs.Common.{◌≡◌, ◌+◌, ◌-◌, ◌*◌, ◌/◌, ◌%◌, ◌^◌, ◌<◌, ◌≤◌, ◌==◌, ℕ, Bool, true, false, refl, ap, ◌∙◌, ⊎_elim, cond, ◌&&◌, nat_lt, nat_le, bit_or, bit_and, arith}
 use Rattle.std.specs.Int.{bit_at}
-use Rattle.std.proofs.lemmas.Bool.{cases_lt}
+use Rattle.std.proofs.lemmas.Bool.{cases_lt, and_parts, ltb-true, leb-true}
 use Rattle.std.proofs.lemmas.Bool.Decides.{nat_tests}
 use Rattle.std.proofs.lemmas.Nat.Bits.{bit_at-lt, bit_at_and, bit_at_or}
 use Rattle.mill_base.proofs.lemmas.WordBits.{bit_at_shr, bit_at_shl_below, bit_at_shl_from}
 use Rattle.mill_base.proofs.lemmas.Belows.{same_below, under_below}
+use Rattle.mill_base.specs.Below.{all_below}
 use Rattle.mill_base.specs.inner.Swaps.{IsSwapMask, swap_place}
+
+-- what makes a mask, as a test that is computed
+abbrev is_swap_mask : ℕ → ℕ → Bool
+is_swap_mask mask by =
+    nat_lt 0 by && (nat_le by 32 && (all_below (λ i. bit_at mask i == 1) by && (all_below (λ i. bit_at mask i + bit_at mask (i + by) == 1) (64 - by)
+    && all_below (λ i. bit_at mask (64 - by + i) == 0) by)))
+
+swap_mask : (mask by : ℕ) → is_swap_mask mask by ≡ true → IsSwapMask mask by
+swap_mask mask by is =
+    let a = and_parts _ _ is in
+    let b = and_parts _ _ a.1 in
+    let c = and_parts _ _ b.1 in
+    let d = and_parts _ _ c.1 in
+    record {
+      some = ltb-true 0 by a.0;
+      half = leb-true by 32 b.0;
+      first = same_below (λ i. bit_at mask i) (λ i. 1) by c.0;
+      turns = λ i h. same_below (λ i. bit_at mask i + bit_at mask (i + by)) (λ i. 1) (64 - by) d.0 i (omega arith);
+      last = same_below (λ i. bit_at mask (64 - by + i)) (λ i. 0) by d.1;
+    }
 
 -- the masks that are used, and where the bits that they swap come from
 pub mask_1 : IsSwapMask 0x5555555555555555 1
-mask_1 = record {
-  some = omega arith;
-  half = omega arith;
-  first = same_below (λ i. bit_at 0x5555555555555555 i) (λ i. 1) 1 refl;
-  turns = λ i h. same_below (λ i. bit_at 0x5555555555555555 i + bit_at 0x5555555555555555 (i + 1)) (λ i. 1) 63 refl i (omega arith);
-  last = same_below (λ i. bit_at 0x5555555555555555 (64 - 1 + i)) (λ i. 0) 1 refl;
-}
+mask_1 = swap_mask 0x5555555555555555 1 refl
+
+pub mask_2 : IsSwapMask 0x3333333333333333 2
+mask_2 = swap_mask 0x3333333333333333 2 refl
+
+pub mask_4 : IsSwapMask 0x0f0f0f0f0f0f0f0f 4
+mask_4 = swap_mask 0x0f0f0f0f0f0f0f0f 4 refl
+
+pub mask_8 : IsSwapMask 0x00ff00ff00ff00ff 8
+mask_8 = swap_mask 0x00ff00ff00ff00ff 8 refl
+
+pub mask_16 : IsSwapMask 0x0000ffff0000ffff 16
+mask_16 = swap_mask 0x0000ffff0000ffff 16 refl
+
+pub mask_32 : IsSwapMask 0x00000000ffffffff 32
+mask_32 = swap_mask 0x00000000ffffffff 32 refl
 
 abbrev pub place_1 : ℕ → ℕ
 place_1 = swap_place 0x5555555555555555 1
 
-pub within_1 : (i : ℕ) → i < 64 → place_1 i < 64
-within_1 = under_below place_1 64 64 refl
-
-pub mask_2 : IsSwapMask 0x3333333333333333 2
-mask_2 = record {
-  some = omega arith;
-  half = omega arith;
-  first = same_below (λ i. bit_at 0x3333333333333333 i) (λ i. 1) 2 refl;
-  turns = λ i h. same_below (λ i. bit_at 0x3333333333333333 i + bit_at 0x3333333333333333 (i + 2)) (λ i. 1) 62 refl i (omega arith);
-  last = same_below (λ i. bit_at 0x3333333333333333 (64 - 2 + i)) (λ i. 0) 2 refl;
-}
-
 abbrev pub place_2 : ℕ → ℕ
 place_2 = swap_place 0x3333333333333333 2
-
-pub within_2 : (i : ℕ) → i < 64 → place_2 i < 64
-within_2 = under_below place_2 64 64 refl
-
-pub mask_4 : IsSwapMask 0x0f0f0f0f0f0f0f0f 4
-mask_4 = record {
-  some = omega arith;
-  half = omega arith;
-  first = same_below (λ i. bit_at 0x0f0f0f0f0f0f0f0f i) (λ i. 1) 4 refl;
-  turns = λ i h. same_below (λ i. bit_at 0x0f0f0f0f0f0f0f0f i + bit_at 0x0f0f0f0f0f0f0f0f (i + 4)) (λ i. 1) 60 refl i (omega arith);
-  last = same_below (λ i. bit_at 0x0f0f0f0f0f0f0f0f (64 - 4 + i)) (λ i. 0) 4 refl;
-}
 
 abbrev pub place_4 : ℕ → ℕ
 place_4 = swap_place 0x0f0f0f0f0f0f0f0f 4
 
-pub within_4 : (i : ℕ) → i < 64 → place_4 i < 64
-within_4 = under_below place_4 64 64 refl
-
-pub mask_8 : IsSwapMask 0x00ff00ff00ff00ff 8
-mask_8 = record {
-  some = omega arith;
-  half = omega arith;
-  first = same_below (λ i. bit_at 0x00ff00ff00ff00ff i) (λ i. 1) 8 refl;
-  turns = λ i h. same_below (λ i. bit_at 0x00ff00ff00ff00ff i + bit_at 0x00ff00ff00ff00ff (i + 8)) (λ i. 1) 56 refl i (omega arith);
-  last = same_below (λ i. bit_at 0x00ff00ff00ff00ff (64 - 8 + i)) (λ i. 0) 8 refl;
-}
-
 abbrev pub place_8 : ℕ → ℕ
 place_8 = swap_place 0x00ff00ff00ff00ff 8
-
-pub within_8 : (i : ℕ) → i < 64 → place_8 i < 64
-within_8 = under_below place_8 64 64 refl
-
-pub mask_16 : IsSwapMask 0x0000ffff0000ffff 16
-mask_16 = record {
-  some = omega arith;
-  half = omega arith;
-  first = same_below (λ i. bit_at 0x0000ffff0000ffff i) (λ i. 1) 16 refl;
-  turns = λ i h. same_below (λ i. bit_at 0x0000ffff0000ffff i + bit_at 0x0000ffff0000ffff (i + 16)) (λ i. 1) 48 refl i (omega arith);
-  last = same_below (λ i. bit_at 0x0000ffff0000ffff (64 - 16 + i)) (λ i. 0) 16 refl;
-}
 
 abbrev pub place_16 : ℕ → ℕ
 place_16 = swap_place 0x0000ffff0000ffff 16
 
-pub within_16 : (i : ℕ) → i < 64 → place_16 i < 64
-within_16 = under_below place_16 64 64 refl
-
-pub mask_32 : IsSwapMask 0x00000000ffffffff 32
-mask_32 = record {
-  some = omega arith;
-  half = omega arith;
-  first = same_below (λ i. bit_at 0x00000000ffffffff i) (λ i. 1) 32 refl;
-  turns = λ i h. same_below (λ i. bit_at 0x00000000ffffffff i + bit_at 0x00000000ffffffff (i + 32)) (λ i. 1) 32 refl i (omega arith);
-  last = same_below (λ i. bit_at 0x00000000ffffffff (64 - 32 + i)) (λ i. 0) 32 refl;
-}
-
 abbrev pub place_32 : ℕ → ℕ
 place_32 = swap_place 0x00000000ffffffff 32
+
+pub within_2 : (i : ℕ) → i < 64 → place_2 i < 64
+within_2 = under_below place_2 64 64 refl
+
+pub within_4 : (i : ℕ) → i < 64 → place_4 i < 64
+within_4 = under_below place_4 64 64 refl
+
+pub within_8 : (i : ℕ) → i < 64 → place_8 i < 64
+within_8 = under_below place_8 64 64 refl
+
+pub within_16 : (i : ℕ) → i < 64 → place_16 i < 64
+within_16 = under_below place_16 64 64 refl
 
 pub within_32 : (i : ℕ) → i < 64 → place_32 i < 64
 within_32 = under_below place_32 64 64 refl
