@@ -1,4 +1,5 @@
 -- Words that hold cells of a line.
+use Rattle.std.proofs.lemmas.Nat.{mod_below}
 use Rattle.std.proofs.Common.{◌≡◌, ℕ, zero, suc, ◌+◌, ◌-◌, ◌*◌, ◌/◌, ◌%◌, ◌^◌, ◌<◌, ◌≤◌, ◌==◌, Bool, false, bit_or, min, max, not, ltb, pos, ◌-ℤ◌, [], length, get_or, refl, sym, ap, ◌∙◌, arith, ⊎_elim}
 use Rattle.std.proofs.lemmas.Bool.{cases_lt}
 use Rattle.std.proofs.lemmas.Bool.Decides.{nat_tests}
@@ -40,32 +41,47 @@ spread_cells line from word n past again cells j h = ⊎_elim
 either : (a b : ℕ) (cell : Bool) → (a == 1) ≡ cell → (b == 1) ≡ cell → a < 2 → b < 2 → (max a b == 1) ≡ cell
 either a b cell one other ha hb = grind (arith, nat_tests)
 
+-- a word moved up by n in two steps
+moved_up : (word n j : ℕ) → n < 64 → n + 1 ≤ j → j < 64 → bit_at (word * 2 ^ n % 2 ^ 64 * 2 ^ 1 % 2 ^ 64) j ≡ bit_at word (j - (n + 1))
+moved_up word n j few from within =
+    bit_at_shl_from (word * 2 ^ n % 2 ^ 64) 1 64 j (omega arith) within ∙ bit_at_shl_from word n 64 (j - 1) (omega arith) (omega arith) ∙ ap (bit_at word) (omega arith)
+
+moved_up_below : (word n j : ℕ) → n < 64 → j < n + 1 → j < 64 → bit_at (word * 2 ^ n % 2 ^ 64 * 2 ^ 1 % 2 ^ 64) j ≡ 0
+moved_up_below word n j few below within = ⊎_elim
+    (λ (first : j < 1). bit_at_shl_below (word * 2 ^ n % 2 ^ 64) 1 64 j first within)
+    (λ (next : 1 ≤ j). bit_at_shl_from (word * 2 ^ n % 2 ^ 64) 1 64 j next within ∙ bit_at_shl_below word n 64 (j - 1) (omega arith) (omega arith))
+    (cases_lt j 1)
+
 -- the cells `by` places further on, where the line comes again after n
-pub turned_cells : (line : ℕ → Bool) (from word n by : ℕ) → word < 2 ^ 64 → n ≤ 64 → by < n → Repeats line n → AreCells line from 64 word
-    → AreCells line (from + by) 64 (bit_or (word / 2 ^ by) (word * 2 ^ (n - by) % 2 ^ 64))
-turned_cells line from word n by fits few less again cells j within =
-    ap (λ b. b == 1) (bit_at_or (word / 2 ^ by) (word * 2 ^ (n - by) % 2 ^ 64) j) ∙ ⊎_elim
-    (λ (first : j < n - by). ap (λ b. max (bit_at (word / 2 ^ by) j) b == 1) (bit_at_shl_below word (n - by) 64 j first within)
+turned_by : (line : ℕ → Bool) (word n by : ℕ) → word < 2 ^ 64 → n ≤ 64 → by < n → Repeats line n → AreCells line 0 64 word
+    → AreCells line by 64 (bit_or (word / 2 ^ by) (word * 2 ^ (n - 1 - by) % 2 ^ 64 * 2 ^ 1 % 2 ^ 64))
+turned_by line word n by fits few less again cells j within =
+    ap (λ b. b == 1) (bit_at_or (word / 2 ^ by) up j) ∙ ⊎_elim
+    (λ (first : j < n - by). ap (λ b. max (bit_at (word / 2 ^ by) j) b == 1) (moved_up_below word (n - 1 - by) j (omega arith) (omega arith) within)
     ∙ ap (λ b. b == 1) (omega (arith, bit_at-lt (word / 2 ^ by) j)) ∙ ahead (omega arith))
     (λ (next : n - by ≤ j). ⊎_elim
-    (λ (low : j + by < 64). either (bit_at (word / 2 ^ by) j) (bit_at (word * 2 ^ (n - by) % 2 ^ 64) j) (line (from + by + j)) (ahead low) (behind next)
-    (bit_at-lt (word / 2 ^ by) j) (bit_at-lt (word * 2 ^ (n - by) % 2 ^ 64) j))
-    (λ (high : 64 ≤ j + by). ap (λ b. max b (bit_at (word * 2 ^ (n - by) % 2 ^ 64) j) == 1) (bit_at_shr word by j ∙ bit_at_above word 64 (j + by) fits high)
-    ∙ ap (λ b. b == 1) (omega (arith, bit_at-lt (word * 2 ^ (n - by) % 2 ^ 64) j)) ∙ behind next)
+    (λ (low : j + by < 64). either (bit_at (word / 2 ^ by) j) (bit_at up j) (line (by + j)) (ahead low) (behind next) (bit_at-lt (word / 2 ^ by) j) (bit_at-lt up j))
+    (λ (high : 64 ≤ j + by). ap (λ b. max b (bit_at up j) == 1) (bit_at_shr word by j ∙ bit_at_above word 64 (j + by) fits high)
+    ∙ ap (λ b. b == 1) (omega (arith, bit_at-lt up j)) ∙ behind next)
     (cases_lt (j + by) 64))
     (cases_lt j (n - by))
   where
-    ahead : j + by < 64 → (bit_at (word / 2 ^ by) j == 1) ≡ line (from + by + j)
+    up : ℕ
+    up = word * 2 ^ (n - 1 - by) % 2 ^ 64 * 2 ^ 1 % 2 ^ 64
+
+    ahead : j + by < 64 → (bit_at (word / 2 ^ by) j == 1) ≡ line (by + j)
     ahead low = ap (λ b. b == 1) (bit_at_shr word by j) ∙ cells (j + by) low ∙ ap line (omega arith)
 
-    behind : n - by ≤ j → (bit_at (word * 2 ^ (n - by) % 2 ^ 64) j == 1) ≡ line (from + by + j)
+    behind : n - by ≤ j → (bit_at up j == 1) ≡ line (by + j)
     behind next =
-        ap (λ b. b == 1) (bit_at_shl_from word (n - by) 64 j next within) ∙ cells (j - (n - by)) (omega arith) ∙ sym (again (from + (j - (n - by)))) ∙ ap line (omega arith)
+        ap (λ b. b == 1) (moved_up word (n - 1 - by) j (omega arith) (omega arith) within) ∙ cells (j - (n - 1 - by + 1)) (omega arith)
+        ∙ sym (again (0 + (j - (n - 1 - by + 1)))) ∙ ap line (omega arith)
 
--- the cells at a later place are those `by` places further on, with a remainder for `by`
-pub later_cells : (line : ℕ → Bool) (from to n word : ℕ) → from ≤ to → 0 < n → Repeats line n → AreCells line (from + (to - from) % n) 64 word → AreCells line to 64 word
-later_cells line from to n word later some again cells j h =
-    cells j h ∙ sym (repeats_often line n ((to - from) / n) (from + (to - from) % n + j) again) ∙ ap line (omega (arith, mod-add-div' (to - from) n))
+pub turned_cells : (line : ℕ → Bool) (word n from : ℕ) → word < 2 ^ 64 → 0 < n → n ≤ 64 → Repeats line n → AreCells line 0 64 word
+    → AreCells line from 64 (bit_or (word / 2 ^ (from % n)) (word * 2 ^ (n - 1 - from % n) % 2 ^ 64 * 2 ^ 1 % 2 ^ 64))
+turned_cells line word n from fits some few again cells j within =
+    turned_by line word n (from % n) fits few (mod_below from n some) again cells j within
+    ∙ sym (repeats_often line n (from / n) (from % n + j) again) ∙ ap line (omega (arith, mod-add-div' from n))
 
 right_again : (n up p c : ℕ) → ltb (remainder (pos p -ℤ pos (c + n)) n) up ≡ ltb (remainder (pos p -ℤ pos c) n) up
 right_again zero up p c = let e : c + 0 ≡ c = omega arith in ap (λ x. ltb (remainder (pos p -ℤ pos x) 0) up) e

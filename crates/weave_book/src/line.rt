@@ -1,5 +1,5 @@
 //! Whole lines of marks, 64 columns to a word.
-ghost use Rattle.std.specs.Prelude.{◌≡◌, ℕ, ◌+◌, ◌*◌, ◌%◌, ◌^◌, ◌<◌, ◌≤◌, ◌==◌, Bool, length};
+ghost use Rattle.std.specs.Prelude.{◌≡◌, ◌≢◌, ℕ, ◌+◌, ◌*◌, ◌%◌, ◌^◌, ◌<◌, ◌≤◌, ◌==◌, Bool, length};
 ghost use Rattle.std.specs.Int.{bit_at};
 ghost use Rattle.mill_base.specs.Lines.{line_by};
 ghost use Rattle.weave_book.specs.Weaves.{mark};
@@ -12,12 +12,26 @@ use mill_base::word::with_bit;
 impl Weave {
     /// Puts the marks of a pick into a row: position c is the cell at column c. It takes no memory.
     pub fn put_row(&self, pick: u32, out: &mut BitRow)
-        ensures { out.new ≡ line_by (length out.old) (λ c. mark self.now c pick) }
+        ensures len { length out.new ≡ length out.old }
+        ensures marks { out.new ≡ line_by (length out.old) (λ c. mark self.now c pick) }
     {
         let first = self.marks_from(pick, 0);
         for at in 0..out.len().div_ceil(64) {
-            out.put_word(at, self.moved(pick, first, 0, 64 * at));
+            out.put_word(at, self.later_marks(pick, first, 64 * at));
         }
+    }
+
+    /// The marks at 64 columns from column `from` on, where `first` has those from column 0 on.
+    fn later_marks(&self, pick: u32, first: u64, from: u32) -> u64
+        requires room { from + 64 ≤ 2 ^ 32 }
+        requires first { AreCells (λ c. mark self.now c pick) 0 64 first }
+        ensures { AreCells (λ c. mark self.now c pick) from 64 result }
+    {
+        let repeat = self.repeat();
+        if repeat == 0 {
+            return self.marks_from(pick, from);
+        }
+        turned(first, repeat, from)
     }
 
     /// The marks at 64 columns from column `from` on.
@@ -25,30 +39,23 @@ impl Weave {
         requires { from + 64 ≤ 2 ^ 32 }
         ensures { AreCells (λ c. mark self.now c pick) from 64 result }
     {
-        let repeat = self.columns();
-        if repeat == 0 || repeat > 64 {
+        let repeat = self.repeat();
+        if repeat == 0 {
             return self.some_marks(pick, from, 64);
         }
-        spread(
-            self.some_marks(pick, from, repeat as u32),
-            repeat as u32,
-        )
+        spread(self.some_marks(pick, from, repeat), repeat)
     }
 
-    /// The marks at 64 columns from column `to` on, where `word` has those from column `from` on.
-    pub(crate) fn moved(&self, pick: u32, word: u64, from: u32, to: u32) -> u64
-        requires room { to + 64 ≤ 2 ^ 32 }
-        requires word { AreCells (λ c. mark self.now c pick) from 64 word }
-        ensures { AreCells (λ c. mark self.now c pick) to 64 result }
+    /// After how many columns the marks of a pick come again, where these are at most 64, and else 0. No text spells a weave
+    /// of more.
+    pub(crate) fn repeat(&self) -> u32
+        ensures few { result ≤ 64 }
+        ensures again { (p : ℕ) → Repeats (λ c. mark self.now c p) result }
     {
-        let repeat = self.columns();
-        if repeat == 0 || repeat > 64 || to < from {
-            return self.marks_from(pick, to);
-        }
-        turned(word, repeat as u32, (to - from) % repeat as u32)
+        let columns = self.columns();
+        if columns > 64 { 0 } else { columns as u32 }
     }
 
-    /// After how many columns the marks of a pick come again; 0 where they never do.
     fn columns(&self) -> u64
         ensures { result ≡ repeat_of self.now }
     {
@@ -93,14 +100,13 @@ fn spread(word: u64, count: u32) -> u64
     spread
 }
 
-/// The cells `by` places further on of a line that comes again after `repeat` places.
-fn turned(word: u64, repeat: u32, by: u32) -> u64
-    requires repeat { repeat ≤ 64 }
-    requires by { by < repeat }
-    ensures { (line : ℕ → Bool) (from : ℕ) → Repeats line repeat → AreCells line from 64 word → AreCells line (from + by) 64 result }
+/// The cells from place `from` on of a line that comes again after `repeat` places; `first` has those from place 0 on.
+pub(crate) fn turned(first: u64, repeat: u32, from: u32) -> u64
+    requires some { 0 < repeat }
+    requires few { repeat ≤ 64 }
+    ensures { (line : ℕ → Bool) → Repeats line repeat → AreCells line 0 64 first → AreCells line from 64 result }
 {
-    if by == 0 {
-        return word;
-    }
-    (word >> by) | (word << (repeat - by))
+    let by = from % repeat;
+    // in two steps, since the whole way may be 64
+    (first >> by) | (first << (repeat - 1 - by) << 1)
 }
