@@ -9,8 +9,8 @@ use Rattle.tiff_palette.specs.declared.fault.TiffFault.TheVariants.{TooLarge}
 use Rattle.tiff_palette.specs.declared.image.PaletteImage.{PaletteImage}
 use Rattle.tiff_palette.specs.declared.layout.Layout.{Layout}
 use Rattle.tiff_palette.specs.Images.{Image}
-use Rattle.tiff_palette.specs.Layouts.{layout_of, strips_of}
-use Rattle.tiff_palette.specs.Rules.{all_faults, content_rules, image_fault, short_strips, strip_count}
+use Rattle.tiff_palette.specs.Layouts.{strips_of}
+use Rattle.tiff_palette.specs.Rules.{all_faults, content_rules, image_fault, short_strips}
 use Rattle.tiff_palette.specs.Written.{IsWritable, written_layout, tiff_of, lists_of, head_of, pixels_place}
 use Rattle.tiff_palette.specs.inner.Drawings.{HasRows}
 use Rattle.tiff_palette.proofs.Codec.{IsDrawn, behind, whole, offsets, counts, whole_length, layout_in, strips_right}

@@ -1,12 +1,12 @@
 -- Faults one after another, and those of the strips.
-use Rattle.std.proofs.Common.{◌≡◌, ℕ, ◌+◌, ◌-◌, ◌<◌, Bool, true, false, List, [], ◌∷◌, ◌++◌, append-nil, refl, sym, ap, subst, ◌∙◌}
+use Rattle.std.proofs.Common.{◌≡◌, ℕ, ◌+◌, ◌-◌, ◌<◌, Bool, true, false, List, [], ◌∷◌, ◌++◌, append-nil, refl, sym, ap, subst, ◌∙◌, arith}
 use Rattle.std.specs.List.{range_with_len, flat_map}
 use Rattle.std.proofs.lemmas.Grind.{flat_map-append}
 use Rattle.tiff_palette.specs.declared.fault.TiffFault.{TiffFault}
 use Rattle.tiff_palette.specs.declared.fault.TiffFault.TheVariants.{ShortStrip}
 use Rattle.tiff_palette.specs.Rules.{is_held, short_strips, unless}
 use Rattle.tiff_palette.specs.inner.Outcomes.{TellsFirst}
-use Rattle.tiff_palette.proofs.Ranges.{range_more, range_parts}
+use Rattle.mill_base.proofs.lemmas.Ranges.{range_more, range_at}
 
 -- the first fault of a rule is the first of all behind it
 pub told_here : (xs ys : List TiffFault) (f : TiffFault) → TellsFirst xs f → TellsFirst (xs ++ ys) f
@@ -24,7 +24,7 @@ strip_faults bytes k = unless (is_held bytes k) (ShortStrip k)
 pub none_more : (bytes : List ℕ) (k : ℕ) → short_strips bytes k ≡ [] → is_held bytes k ≡ true → short_strips bytes (k + 1) ≡ []
 unfolding short_strips
 none_more bytes k before here =
-    ap (flat_map (strip_faults bytes)) (range_more k) ∙ flat_map-append (strip_faults bytes) (range_with_len 0 k) (k ∷ [])
+    ap (flat_map (strip_faults bytes)) (range_more 0 k k (omega arith)) ∙ flat_map-append (strip_faults bytes) (range_with_len 0 k) (k ∷ [])
     ∙ ap (λ xs. xs ++ flat_map (strip_faults bytes) (k ∷ [])) before ∙ append-nil (strip_faults bytes k) ∙ ap (λ (b : Bool). unless b (ShortStrip k)) here
 
 -- no strip below k has a fault, and strip k has one, which is told
@@ -32,7 +32,7 @@ pub first_short : (bytes : List ℕ) (k n : ℕ) (f : TiffFault) → short_strip
 unfolding short_strips
 first_short bytes k n f before here below =
     let above = flat_map (strip_faults bytes) (range_with_len (k + 1) (n - k - 1)) in
-    let parts = ap (flat_map (strip_faults bytes)) (range_parts k n below) ∙ flat_map-append (strip_faults bytes) (range_with_len 0 k) (k ∷ range_with_len (k + 1) (n - k - 1)) in
+    let parts = ap (flat_map (strip_faults bytes)) (range_at k n below) ∙ flat_map-append (strip_faults bytes) (range_with_len 0 k) (k ∷ range_with_len (k + 1) (n - k - 1)) in
     subst (λ faults. TellsFirst faults f) (sym parts)
     (told_later (flat_map (strip_faults bytes) (range_with_len 0 k)) (strip_faults bytes k ++ above) f before (told_here (strip_faults bytes k) above f here))
 
@@ -50,7 +50,7 @@ pub held_of_none : (bytes : List ℕ) (k n : ℕ) → short_strips bytes n ≡ [
 unfolding short_strips
 held_of_none bytes k n none below =
     let above = flat_map (strip_faults bytes) (range_with_len (k + 1) (n - k - 1)) in
-    let parts = ap (flat_map (strip_faults bytes)) (range_parts k n below) ∙ flat_map-append (strip_faults bytes) (range_with_len 0 k) (k ∷ range_with_len (k + 1) (n - k - 1)) in
+    let parts = ap (flat_map (strip_faults bytes)) (range_at k n below) ∙ flat_map-append (strip_faults bytes) (range_with_len 0 k) (k ∷ range_with_len (k + 1) (n - k - 1)) in
     kept_test (is_held bytes k) (ShortStrip k) (none_within (flat_map (strip_faults bytes) (range_with_len 0 k)) (strip_faults bytes k) above (sym parts ∙ none))
 
 pub no_strips : (bytes : List ℕ) → short_strips bytes 0 ≡ []

@@ -1,6 +1,6 @@
--- The fields of a file that was written, and the rules that they alone decide. The head of a file is written out byte by byte, whatever the
--- numbers in it are, so the words of reading compute over it.
-use Rattle.std.proofs.Common.{◌≡◌, ◌≤◌, ◌<◌, ◌^◌, if◌then◌else◌, Bool, true, false, ◌∙◌, ap, refl, ℕ, ◌+◌, ◌-◌, ◌*◌, List, [], ◌∷◌, ◌++◌, length, length-append, ◌&&◌, drop, Some, arith, nat_lt, nat_le}
+-- The fields of a file that was written, and the rules that they alone decide. The head of a file is written out byte
+-- by byte, whatever the numbers in it are, so the words of reading compute over it.
+use Rattle.std.proofs.Common.{◌≡◌, ◌≤◌, ◌<◌, ◌^◌, if◌then◌else◌, Bool, true, ◌∙◌, ap, refl, ℕ, ◌+◌, ◌-◌, ◌*◌, List, [], ◌∷◌, ◌++◌, length, length-append, ◌&&◌, drop, Some, arith, nat_lt, nat_le}
 use Rattle.byteorder.specs.Endian.{little_bytes, little_number}
 use Rattle.byteorder.specs.Numbers.{little_number-reads_back}
 use Rattle.std.proofs.lemmas.Bool.{le-leb, lt-ltb, lt-leb}

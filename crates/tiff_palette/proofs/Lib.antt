@@ -1,4 +1,3 @@
-pub mod Ranges
 pub mod Firsts
 pub mod Entries
 pub mod Places

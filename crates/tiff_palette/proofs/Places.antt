@@ -1,19 +1,17 @@
 -- Where rows lie.
-use Rattle.std.proofs.Common.{◌≡◌, ◌≤◌, ◌<◌, ℕ, ◌+◌, ◌-◌, ◌*◌, ◌/◌, ◌%◌, min, List, [], length, Option, Some, Bool, true, false, nat_le, ◌&&◌, sym, ap, subst, ◌∙◌, arith}
+use Rattle.std.proofs.Common.{◌≡◌, ◌≤◌, ◌<◌, ℕ, ◌+◌, ◌-◌, ◌*◌, ◌/◌, ◌%◌, min, List, [], length, Some, Bool, true, false, nat_le, ◌&&◌, sym, ap, subst, arith}
 use Rattle.std.specs.Option.{option_map_or}
 use Rattle.std.proofs.lemmas.Bool.{leb-true}
 use Rattle.std.proofs.lemmas.Nat.{div-add-mod', le-div}
 use Rattle.std.proofs.Math.Nat.{mod-lt, mul-le-mul_right, add-mul}
 use Rattle.tiff_palette.specs.declared.entry.Entry.{Entry}
-use Rattle.tiff_palette.specs.declared.fault.TiffFault.{TiffFault}
-use Rattle.tiff_palette.specs.declared.fault.TiffFault.TheVariants.{ShortStrip}
 use Rattle.tiff_palette.specs.declared.layout.Layout.{Layout}
 use Rattle.tiff_palette.specs.declared.tags.TheConstants.{STRIP_OFFSETS, STRIP_BYTE_COUNTS}
 use Rattle.tiff_palette.specs.Directories.{field_of}
 use Rattle.tiff_palette.specs.Fields.{value_at, value_of}
 use Rattle.tiff_palette.specs.Layouts.{layout_of, row_bytes, strip_bytes, strips_of}
 use Rattle.tiff_palette.specs.Pixels.{row_place}
-use Rattle.tiff_palette.specs.Rules.{is_held, short_strips, unless}
+use Rattle.tiff_palette.specs.Rules.{is_held, short_strips}
 use Rattle.tiff_palette.proofs.Firsts.{held_of_none}
 
 -- the values of a field are those of its entry

@@ -5,12 +5,12 @@ use Rattle.std.specs.Option.{option_map_or}
 use Rattle.byteorder.specs.Endian.{little_bytes}
 use Rattle.std.proofs.Math.Nat.{add-mul}
 use Rattle.std.proofs.lemmas.List.{get_or-append-add}
-use Rattle.std.proofs.lemmas.Nat.{div-add-mod', mul-add-lt}
+use Rattle.std.proofs.lemmas.Nat.{div-add-mod'}
 use Rattle.std.proofs.lemmas.Bool.{le-leb, lt-ltb, eq-eqb, eqb-true, eqb-false}
 use Rattle.mill_base.specs.declared.limits.TheConstants.{MAX_COLOURS}
 use Rattle.tiff_palette.specs.declared.entry.Entry.{Entry}
 use Rattle.tiff_palette.specs.declared.entry.TheConstants.{LONG}
-use Rattle.tiff_palette.specs.declared.fault.TiffFault.TheVariants.{Missing, BadField, StripCount}
+use Rattle.tiff_palette.specs.declared.fault.TiffFault.TheVariants.{Missing, StripCount}
 use Rattle.tiff_palette.specs.declared.layout.Layout.{Layout}
 use Rattle.tiff_palette.specs.declared.tags.TheConstants.{STRIP_OFFSETS, STRIP_BYTE_COUNTS, COLOR_MAP}
 use Rattle.tiff_palette.specs.declared.writing.TheConstants.{LISTS}
@@ -18,9 +18,9 @@ use Rattle.tiff_palette.specs.Directories.{field_of}
 use Rattle.tiff_palette.specs.Fields.{is_whole, value_of}
 use Rattle.tiff_palette.specs.Layouts.{layout_of, strips_of, row_bytes}
 use Rattle.tiff_palette.specs.Pixels.{nibble, pixel_at, pixel_of, row_place, shade_of}
-use Rattle.tiff_palette.specs.Rules.{many, many_values, one_per_strip, strip_count, unless}
+use Rattle.tiff_palette.specs.Rules.{many, many_values, one_per_strip, strip_count}
 use Rattle.tiff_palette.specs.Written.{counts_value, head_of, pixels_place, written_offset}
-use Rattle.tiff_palette.proofs.Codec.{IsDrawn, behind, whole, offset_in, offsets, counts, offsets_length, counts_length, row_is, strips_near, whole_length, layout_in, offsets_entry, counts_entry}
+use Rattle.tiff_palette.proofs.Codec.{IsDrawn, behind, whole, offset_in, offsets, counts, offsets_length, counts_length, row_is, whole_length, layout_in, offsets_entry, counts_entry}
 use Rattle.tiff_palette.proofs.Coded.{file_front, front_length, file_colour, lists}
 use Rattle.tiff_palette.proofs.Heads.{head_map, long_entry, map_entry}
 use Rattle.tiff_palette.proofs.Places.{strip_there, value_is}

@@ -21,7 +21,8 @@ entry_place bytes k = directory_place bytes + 2 + 12 * k
 abbrev pub size_of : ℕ → ℕ
 size_of kind = if kind == SHORT then 2 else 4
 
--- where the values of the entry at a place lie: in its last 4 bytes where these are room enough, else at the offset that stands there
+-- where the values of the entry at a place lie: in its last 4 bytes where these are room enough, else at the offset
+-- that stands there
 abbrev pub values_place : List ℕ → ℕ → ℕ → ℕ → ℕ
 values_place bytes kind count place = if nat_le (size_of kind * count) 4 then place + 8 else number 4 (place + 8) bytes
 

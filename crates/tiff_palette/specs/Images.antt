@@ -6,7 +6,8 @@ use Rattle.tiff_palette.specs.Layouts.{layout_of}
 use Rattle.tiff_palette.specs.Pixels.{pixel_of, shade_of}
 use Rattle.tiff_palette.specs.Rules.{image_fault}
 
--- the file keeps every rule, and the image has the size that its fields say, each pixel of its strips and each colour of its map
+-- the file keeps every rule, and the image has the size that its fields say, each pixel of its strips and each colour
+-- of its map
 pub record Image (bytes : List ℕ) (image : PaletteImage) : Type 0 where
   pub sound : image_fault bytes ≡ None
   pub width : image.width ≡ (layout_of bytes).width

@@ -1,4 +1,5 @@
--- The pixels and the colours of a file (TIFF 6.0, section 5). Columns are counted from the left and rows from the top, both from 0.
+-- The pixels and the colours of a file (TIFF 6.0, section 5). Columns are counted from the left and rows from the top,
+-- both from 0.
 use Rattle.std.specs.Prelude.{ℕ, ◌+◌, ◌*◌, ◌/◌, ◌%◌, ◌^◌, ◌==◌, nat_lt, List, slice_index, if◌then◌else◌}
 use Rattle.tiff_palette.specs.declared.layout.Layout.{Layout}
 use Rattle.tiff_palette.specs.declared.tags.TheConstants.{STRIP_OFFSETS, COLOR_MAP}
@@ -21,6 +22,7 @@ pixel_at l bytes place x = if l.bits == 8 then slice_index bytes (place + x) els
 abbrev pub pixel_of : Layout → List ℕ → ℕ → ℕ → ℕ
 pixel_of l bytes x y = pixel_at l bytes (row_place l bytes y) x
 
--- the red (part 0), green (1) or blue (2) of colour k: the map has all reds, all greens, all blues, of 2^bits colours; any other colour is 0
+-- the red (part 0), green (1) or blue (2) of colour k: the map has all reds, all greens, all blues, of 2^bits colours;
+-- any other colour is 0
 unfoldable pub shade_of : ℕ → List ℕ → ℕ → ℕ → ℕ
 shade_of bits bytes part k = if nat_lt k (2 ^ bits) then value_of COLOR_MAP (part * 2 ^ bits + k) bytes else 0

@@ -1,5 +1,6 @@
--- The rules of a palette image, in the order in which they are tried. The header and the directory are those of TIFF 6.0, section 2, and
--- the fields those of its sections 3 to 5. Which values are taken, and the order, are this project's own.
+-- The rules of a palette image, in the order in which they are tried. The header and the directory are those of TIFF
+-- 6.0, section 2, and the fields those of its sections 3 to 5. Which values are taken, and the order, are this
+-- project's own.
 use Rattle.std.specs.Prelude.{ℕ, ◌+◌, ◌-◌, ◌*◌, ◌^◌, ◌==◌, nat_le, nat_lt, Bool, true, false, ◌&&◌, ◌||◌, List, [], ◌∷◌, ◌++◌, length, slice_index, slice_get, Option}
 use Rattle.std.specs.List.{range_with_len, flat_map}
 use Rattle.std.specs.Option.{option_map_or}
@@ -39,7 +40,8 @@ allows tag default allowed fault bytes = unless (allowed (value_or tag default b
 unfoldable pub required : ℕ → (Entry → Bool) → (ℕ → Bool) → (ℕ → TiffFault) → Rule
 required tag typed allowed fault = all_of (one_value tag typed (Missing tag ∷ []) ∷ allows tag 0 allowed fault ∷ [])
 
--- a field that may be absent: its type, what its absence counts as, the values that are allowed, and the fault of another value
+-- a field that may be absent: its type, what its absence counts as, the values that are allowed, and the fault of
+-- another value
 unfoldable pub optional : ℕ → (Entry → Bool) → ℕ → (ℕ → Bool) → (ℕ → TiffFault) → Rule
 optional tag typed default allowed fault = all_of (one_value tag typed [] ∷ allows tag default allowed fault ∷ [])
 

@@ -1,5 +1,6 @@
--- The file that is written for an image: little-endian, 8 bits a pixel, in strips of about 8 kilobytes, as TIFF 6.0 advises (section 3).
-use Rattle.std.specs.Prelude.{◌≡◌, ℕ, ◌+◌, ◌*◌, ◌/◌, ◌≤◌, ◌==◌, max, codes, List, [], ◌∷◌, ◌++◌, length, map, if◌then◌else◌}
+-- The file that is written for an image: little-endian, 8 bits a pixel, in strips of about 8 kilobytes, as TIFF 6.0
+-- advises (section 3).
+use Rattle.std.specs.Prelude.{◌≡◌, ℕ, ◌+◌, ◌*◌, ◌/◌, ◌≤◌, ◌==◌, max, codes, List, [], ◌++◌, length, map, if◌then◌else◌}
 use Rattle.std.specs.List.{range_with_len, flat_map}
 use Rattle.byteorder.specs.Endian.{little_bytes}
 use Rattle.mill_base.specs.Limits.{IsWithin}
@@ -11,7 +12,8 @@ use Rattle.tiff_palette.specs.declared.writing.TheConstants.{DIRECTORY, X_RESOLU
 use Rattle.tiff_palette.specs.declared.tags.TheConstants.{IMAGE_WIDTH, IMAGE_LENGTH, BITS_PER_SAMPLE, COMPRESSION, PHOTOMETRIC_INTERPRETATION, STRIP_OFFSETS, ROWS_PER_STRIP, STRIP_BYTE_COUNTS, X_RESOLUTION, Y_RESOLUTION, RESOLUTION_UNIT, COLOR_MAP}
 use Rattle.tiff_palette.specs.Layouts.{strips_of, strip_bytes}
 
--- an image that can be written: no larger than a cloth, with a pixel at each place and a map of 256 reds, greens and blues
+-- an image that can be written: no larger than a cloth, with a pixel at each place and a map of 256 reds, greens and
+-- blues
 pub record IsWritable (image : PaletteImage) : Type 0 where
   pub width : IsWithin 1 image.width MAX_ENDS
   pub height : IsWithin 1 image.height MAX_PICKS
@@ -23,11 +25,13 @@ pub record IsWritable (image : PaletteImage) : Type 0 where
 abbrev pub written_layout : PaletteImage → Layout
 written_layout image = record { width = image.width; height = image.height; bits = 8; rows_per_strip = max 1 (STRIP_SIZE / image.width) }
 
--- an entry: tag, type, count, and the value or its offset. A SHORT stands in the first of its four bytes, which is the same number of four bytes
+-- an entry: tag, type, count, and the value or its offset. A SHORT stands in the first of its four bytes, which is the
+-- same number of four bytes
 abbrev pub entry_bytes : ℕ → ℕ → ℕ → ℕ → List ℕ
 entry_bytes tag kind count value = little_bytes 2 tag ++ little_bytes 2 kind ++ little_bytes 4 count ++ little_bytes 4 value
 
--- the offset and the count of bytes of one strip stand in their entries; those of several stand behind the map, all offsets first
+-- the offset and the count of bytes of one strip stand in their entries; those of several stand behind the map, all
+-- offsets first
 abbrev pub counts_value : ℕ → ℕ → ℕ
 counts_value strips bytes = if strips == 1 then bytes else LISTS + 4 * strips
 

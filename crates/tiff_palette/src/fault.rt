@@ -9,7 +9,8 @@ use mill_base::phrase::{Phrase, whole};
 use std::error::Error;
 use std::fmt;
 
-/// The first rule that a file breaks. A number without a name is the one that was found; fields go by their numbers in TIFF 6.0.
+/// The first rule that a file breaks. A number without a name is the one that was found; fields go by their numbers in
+/// TIFF 6.0.
 #[derive(Clone, Copy, Debug, PartialEq, Eq)]
 pub enum TiffFault {
     /// The header or the directory does not lie in the file.

@@ -5,8 +5,9 @@ ghost use Rattle.tiff_palette.specs.Written.{IsWritable};
 use mill_base::limits::{MAX_CLOTH_CELLS, MAX_COLOURS, MAX_ENDS, MAX_PICKS};
 use mill_base::listed::Listed;
 
-/// An image whose pixels are numbers of colours: `width * height` of them, the top row first and in a row the left pixel first, and a
-/// map of 768 numbers, the red of each of 256 colours, then the green, then the blue (TIFF 6.0, section 5).
+/// An image whose pixels are numbers of colours: `width * height` of them, the top row first and in a row the left
+/// pixel first, and a map of 768 numbers, the red of each of 256 colours, then the green, then the blue (TIFF 6.0,
+/// section 5).
 #[derive(Debug, Drop)]
 pub struct PaletteImage {
     pub width: u32,

@@ -15,7 +15,8 @@ pub fn every_file_is_one_image_or_has_a_fault()
     ensures decided { (bytes : List ℕ) → image_fault bytes ≡ None → (image : PaletteImage) × Image bytes image }
 {}
 
-/// The file that is written for an image of at most 4096 columns is that image and no other. Each number of a map has 16 bits.
+/// The file that is written for an image of at most 4096 columns is that image and no other. Each number of a map has
+/// 16 bits.
 pub fn a_written_file_is_its_image_alone()
     ensures same { (image : PaletteImage) → IsWritable image → All (λ n. n < 2 ^ 16) image.colour_map → image.width ≤ MAX_COLUMNS → Image (tiff_of image) image }
     ensures alone { (image other : PaletteImage) → IsWritable image → All (λ n. n < 2 ^ 16) image.colour_map → image.width ≤ MAX_COLUMNS

@@ -4,7 +4,8 @@ ghost use Rattle.tiff_palette.specs.Layouts.{strips_of, row_bytes, strip_bytes};
 
 use mill_base::limits::{MAX_ENDS, MAX_PICKS};
 
-/// What a file says of its rows: pixels of a row, rows of the image, bits of a pixel, and rows of a strip but for the last.
+/// What a file says of its rows: pixels of a row, rows of the image, bits of a pixel, and rows of a strip but for the
+/// last.
 #[derive(Clone, Copy, Debug, PartialEq, Eq)]
 pub struct Layout {
     pub width: u32,

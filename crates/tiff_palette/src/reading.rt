@@ -25,8 +25,8 @@ use mill_base::limits::{MAX_COLUMNS, MAX_PICKS};
 use mill_base::listed::Listed;
 use std::alloc::Global;
 
-/// The image that a file is, or the first rule that the file breaks. The memory that is taken is that of the image, whatever the file
-/// says. (TIFF 6.0; which of its images are taken is this project's own.)
+/// The image that a file is, or the first rule that the file breaks. The memory that is taken is that of the image,
+/// whatever the file says. (TIFF 6.0; which of its images are taken is this project's own.)
 pub fn read(alloc: Global, bytes: &[u8]) -> Result<PaletteImage, TiffFault>
     ensures image { IfOk result (λ image. Image bytes.now image) }
     ensures writable { IfOk result (λ image. IsWritable image) }

@@ -1,5 +1,5 @@
 //! Files that are read, refused and written.
-ghost use Rattle.std.specs.Prelude.{◌≡◌, ◌≤◌, ◌*◌};
+ghost use Rattle.std.specs.Prelude.{◌<◌, ◌*◌, ◌^◌};
 
 use crate::{PaletteImage, TiffFault, read, write};
 use mill_base::listed::Listed;
@@ -55,7 +55,8 @@ const SHORT: u16 = 3;
 
 const LONG: u16 = 4;
 
-/// An entry by its tag, type, count, and what stands in its last four bytes: two SHORTs, the first in the lower half, or a LONG.
+/// An entry by its tag, type, count, and what stands in its last four bytes: two SHORTs, the first in the lower half,
+/// or a LONG.
 type Row = (u16, u16, u32, u32);
 
 // The entries of a 3 by 2 image of 4 bits whose map stands at 8 and whose strip stands at 104.
@@ -108,7 +109,8 @@ fn push_row(out: &mut Vec<u8>, big: bool, row: Row) -> Result<(), AllocError> {
     push_long(out, big, value)
 }
 
-// A file with three more entries in front of those of ENTRIES, so that they are the first of their tags, and without one field.
+// A file with three more entries in front of those of ENTRIES, so that they are the first of their tags, and without
+// one field.
 fn file(alloc: Global, big: bool, front: [Row; 3], without: u16) -> Result<Vec<u8>, AllocError> {
     let mut bytes = Vec::new(alloc);
     bytes.extend_from_slice(if big { b"MM" } else { b"II" })?;

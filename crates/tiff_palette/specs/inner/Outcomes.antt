@@ -1,5 +1,5 @@
 -- How a function that tries some rules answers.
-use Rattle.std.specs.Prelude.{◌≡◌, ℕ, List, [], Some, slice_get, Result, MatchResult}
+use Rattle.std.specs.Prelude.{◌≡◌, List, [], Some, slice_get, Result, MatchResult}
 use Rattle.tiff_palette.specs.declared.fault.TiffFault.{TiffFault}
 
 -- the first fault is told

@@ -1,4 +1,4 @@
-use Rattle.std.proofs.Common.{◌∙◌, sym, subst, List, ℕ}
+use Rattle.std.proofs.Common.{sym, subst, List, ℕ}
 use Rattle.tiff_palette.proofs.Found.{image_found, image_with, writable_found}
 use Rattle.tiff_palette.specs.Images.{Image}
 use Rattle.tiff_palette.specs.Written.{IsWritable}
