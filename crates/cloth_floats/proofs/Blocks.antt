@@ -1,6 +1,6 @@
 -- Windows of a line in a block.
 use Rattle.std.specs.Prelude.{pos}
-use Rattle.std.proofs.Common.{IsTrue, ◌↔◌, replicate, cond, ◌≡◌, ℕ, zero, suc, ◌+◌, ◌-◌, ◌*◌, ◌/◌, ◌%◌, ◌<◌, ◌≤◌, Bool, true, false, ◌&&◌, ◌||◌, List, length, get_or, refl, sym, ap, ◌∙◌, ⊎_elim, arith}
+use Rattle.std.proofs.Common.{IsTrue, ◌↔◌, replicate, cond, ◌≡◌, ℕ, ◌+◌, ◌-◌, ◌*◌, ◌/◌, ◌%◌, ◌<◌, ◌≤◌, Bool, true, false, ◌&&◌, ◌||◌, List, length, get_or, refl, sym, ap, ◌∙◌, ⊎_elim, arith}
 use Rattle.std.proofs.lemmas.List.{length-replicate, get_or-replicate}
 use Rattle.std.proofs.lemmas.Bool.{cases_Bool, ltb-true, not_from_true}
 use Rattle.std.proofs.lemmas.Nat.{mod_below}
@@ -12,10 +12,10 @@ use Rattle.cloth_floats.specs.Cells.{limit_of}
 use Rattle.cloth_floats.specs.Floats.{is_uniform, length_at}
 use Rattle.cloth_floats.specs.Windows.{is_long_over, is_long, long_of}
 use Rattle.mill_base.proofs.lemmas.Lines.{length-line_by, get_or-line_by, line_is}
-use Rattle.mill_base.proofs.lemmas.Belows.{true_together, any_alike, all_alike, all_each, all_at}
+use Rattle.mill_base.proofs.lemmas.Belows.{true_together, any_alike, all_alike}
 use Rattle.cloth_floats.proofs.Doubling.{all_doubled, any_doubled}
 use Rattle.mill_base.proofs.lemmas.RoundLines.{same_cell, cell_here, past_is}
-use Rattle.cloth_floats.proofs.Sames.{chain_from, same-refl, same_is}
+use Rattle.cloth_floats.proofs.Sames.{chain_from, same-refl}
 use Rattle.cloth_floats.proofs.Lengths.{uniform_cells, uniform_where_none, ends_within}
 use Rattle.cloth_floats.proofs.Places.{within_turns, windows_at_places, cell_from}
 use Rattle.cloth_floats.proofs.Long.{long_on_uniform, short_inside}

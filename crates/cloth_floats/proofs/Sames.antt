@@ -1,5 +1,5 @@
 -- Cells that are equal, as a test.
-use Rattle.std.proofs.Common.{◌≡◌, ℕ, zero, suc, ◌+◌, ◌<◌, ◌≤◌, Bool, true, false, not, refl, sym, ap, subst, ◌∙◌, arith}
+use Rattle.std.proofs.Common.{◌≡◌, ℕ, zero, suc, ◌+◌, ◌≤◌, Bool, true, false, not, refl, sym, ap, subst, ◌∙◌, arith}
 use Rattle.mill_base.specs.Below.{all_below}
 use Rattle.mill_base.specs.Lines.{same}
 use Rattle.mill_base.proofs.lemmas.Belows.{all_each, all_at, true_together}
