@@ -5,16 +5,12 @@ use Rattle.std.proofs.Math.Seq.{take-append_seam}
 use Rattle.std.proofs.Math.Nat.{mod-eq_of_lt}
 use Rattle.std.proofs.lemmas.Option.{get_or_from_slice_get}
 use Rattle.weave_book.specs.declared.weaves.Weave.{Weave}
-use Rattle.weave_book.specs.declared.weaves.Weave.TheVariants.{Blank}
-use Rattle.weave_book.specs.Weaves.{mark}
+use Rattle.weave_book.specs.Books.{colour_mark}
+use Rattle.harness_ties.specs.Ties.{tied}
 use Rattle.point_paper.specs.Papers.{PaperCells, BitCells, cell_of, bit_row, pick_of}
 use Rattle.mill_base.specs.Lines.{line_by}
 use Rattle.mill_base.proofs.lemmas.Lines.{length-line_by, get_or-line_by, line_by_alike}
-use Rattle.draft_model.specs.Cloths.{ClothCells, cloth, raw_cell, tied, weave_of}
-
--- the weave that the book gave is the colour's
-pub weave_read : (book : List Weave) (colour : ℕ) (weave : Weave) → slice_get book colour ≡ Some weave → weave ≡ weave_of book colour
-weave_read book colour weave read = sym (get_or_from_slice_get book colour weave Blank read)
+use Rattle.draft_model.specs.Cloths.{ClothCells, cloth, raw_cell}
 
 -- what a buffer holds once a whole line was put into it
 pub line_read : (len : ℕ) (old put read line : List ℕ) → read ≡ take len (put ++ drop (length put) old) → put ≡ line → length line ≡ len → read ≡ line
@@ -30,13 +26,13 @@ colours_in_book paper pick weaves colours are each k d h =
 
 -- the marks of the colours that were read are the raw cells
 pub raw_read : (book : List Weave) (paper : PaperCells) (pick : ℕ) (colours : List ℕ) (row : List Bool) → colours ≡ pick_of paper pick
-    → row ≡ line_by (length colours) (λ column. mark (weave_of book (slice_index colours column)) column pick)
+    → row ≡ line_by (length colours) (λ column. colour_mark book (slice_index colours column) column pick)
     → row ≡ line_by paper.columns (λ column. raw_cell book paper column pick)
 raw_read book paper pick colours row are marked =
     let long : length colours ≡ paper.columns = ap length are ∙ length-line_by paper.columns (λ column. cell_of paper column pick) in
-    marked ∙ ap (λ n. line_by n (λ column. mark (weave_of book (slice_index colours column)) column pick)) long
-    ∙ line_by_alike false paper.columns (λ column. mark (weave_of book (slice_index colours column)) column pick) (λ column. raw_cell book paper column pick)
-    (λ k h. ap (λ colour. mark (weave_of book colour) k pick) (ap (λ xs. get_or xs k 0) are ∙ get_or-line_by paper.columns (λ column. cell_of paper column pick) k 0 h))
+    marked ∙ ap (λ n. line_by n (λ column. colour_mark book (slice_index colours column) column pick)) long
+    ∙ line_by_alike false paper.columns (λ column. colour_mark book (slice_index colours column) column pick) (λ column. raw_cell book paper column pick)
+    (λ k h. ap (λ colour. colour_mark book colour k pick) (ap (λ xs. get_or xs k 0) are ∙ get_or-line_by paper.columns (λ column. cell_of paper column pick) k 0 h))
 
 -- a bit paper and a cloth by their parts
 pub bits_are : (bits : BitCells) (columns : ℕ) (rows : List (List Bool)) → bits.columns ≡ columns → bits.rows ≡ rows → bits ≡ record { columns = columns; rows = rows }

@@ -1,1 +1,4 @@
+pub mod lemmas
 pub mod ClothRows
+pub mod FirstFloats
+pub mod LongGrids

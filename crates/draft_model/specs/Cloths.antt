@@ -3,17 +3,12 @@
 use Rattle.std.specs.Prelude.{◌≡◌, ◌<◌, ℕ, ℤ, pos, Bool, false, List, [], length, slice_index, slice_index_or}
 use Rattle.mill_base.specs.Lines.{remainder, line_by}
 use Rattle.weave_book.specs.declared.weaves.Weave.{Weave}
-use Rattle.weave_book.specs.declared.weaves.Weave.TheVariants.{Blank}
-use Rattle.weave_book.specs.Weaves.{mark}
+use Rattle.weave_book.specs.Books.{colour_mark}
 use Rattle.point_paper.specs.Papers.{PaperCells, BitCells, cell_of, bit_cell}
-
--- the weave of a colour; no paper of a design has a colour that its book lacks, and such a colour would be blank
-abbrev pub weave_of : List Weave → ℕ → Weave
-weave_of book colour = slice_index_or book colour Blank
 
 -- the raw cell of a paper: the mark that the weave of its colour has there
 abbrev pub raw_cell : List Weave → PaperCells → ℕ → ℕ → Bool
-raw_cell book paper column pick = mark (weave_of book (cell_of paper column pick)) column pick
+raw_cell book paper column pick = colour_mark book (cell_of paper column pick) column pick
 
 -- the rows of so many picks, from the bottom, of so many cells each, from the left, by the formula of a cell
 abbrev pub rows_by : {A : Type 0} → ℕ → ℕ → (ℕ → ℕ → A) → List (List A)
@@ -41,7 +36,3 @@ repeat tie bits = record { ends = length tie; rows = rows_by (length tie) (lengt
 -- each row has a truth value for each end
 abbrev pub IsCloth : ClothCells → Type 0
 IsCloth cloth = (pick : ℕ) → pick < length cloth.rows → length (slice_index_or cloth.rows pick []) ≡ cloth.ends
-
--- a pick of a cloth by the row of the paper's pick: each end has the cell of its column
-abbrev pub tied : List ℕ → List Bool → List Bool
-tied tie row = line_by (length tie) (λ e. slice_index_or row (slice_index tie e) false)

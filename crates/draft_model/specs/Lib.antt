@@ -1,3 +1,7 @@
+pub mod Cards
+pub mod Cells
 pub mod Cloths
 pub mod Designs
 pub mod Drawdowns
+pub mod Floats
+pub mod Inner

@@ -1,15 +1,19 @@
-//! The plain functions from a paper to its cloth.
+//! The plain functions from a paper to its bound paper and its cloth.
 ghost use Rattle.std.specs.Prelude.{◌≡◌, ◌<◌, ℕ, length, slice_index, IfOk, All};
-ghost use Rattle.point_paper.specs.Papers.{cell_of};
+ghost use Rattle.mill_base.specs.Grids.{GridCells};
 ghost use Rattle.mill_base.specs.Lines.{line_by};
-ghost use Rattle.weave_book.specs.Weaves.{mark};
-ghost use Rattle.draft_model.specs.Cloths.{raw_cell, weave_of, tied};
-ghost use Rattle.draft_model.specs.Designs.{Fits, IsPaperOf};
-ghost use Rattle.draft_model.specs.Drawdowns.{bound as bound_of, drawdown as drawdown_of};
+ghost use Rattle.weave_book.specs.Books.{colour_mark};
+ghost use Rattle.point_paper.specs.Papers.{cell_of, pick_of};
+ghost use Rattle.draft_model.specs.Cloths.{raw as raw_of, raw_cell, rows_by};
+ghost use Rattle.draft_model.specs.Designs.{Fits, IsBitsOf, IsPaperOf};
+ghost use Rattle.draft_model.specs.Drawdowns.{bound as bound_of, drawdown as drawdown_of, cell_bound, column_long};
+ghost use Rattle.draft_model.specs.Inner.{bits_of, IsGridOf};
 
 use crate::cloth::Cloth;
 use crate::design::Design;
-use harness_ties::tie::Tie;
+use crate::long_columns::long_columns;
+use binder_marks::bind_line;
+use mill_base::bit_grid::BitGrid;
 use mill_base::bit_row::BitRow;
 use mill_base::memory::OutOfMemory;
 use mill_base::steps::Steps;
@@ -18,16 +22,18 @@ use point_paper::paper::{LineKind, Paper};
 use std::alloc::Global;
 use std::marker::Brand;
 use std::sync::ledger::{Blank, Ledger};
-use weave_book::book::Book;
 
-/// Which cells of a paper are lifted, in its columns and picks, once the binder has been over it (`raw` and `bound` cells are this
-/// project's own terms). No binder changes a cell, so a cell is lifted exactly where the weave of its colour has a mark.
+/// Which cells of a paper are lifted, in its columns and picks, once the binder has been over it, in one pass over the raw cloth (`raw`
+/// and `bound` cells are this project's own terms).
 pub fn bound(alloc: Global, design: &Design, paper: &Paper) -> Result<BitPaper, OutOfMemory>
     requires fits { Fits design.now }
     requires paper { IsPaperOf design.now paper.now }
-    ensures { IfOk result (λ bits. bits ≡ bound_of design.now paper.now) }
+    ensures bits { IfOk result (λ bits. bits ≡ bound_of design.now paper.now) }
+    ensures size { IfOk result (λ bits. IsBitsOf design.now bits) }
 {
-    bound_with::<Brand>(alloc, design, paper, Blank::new(1))
+    let raw = raw_with::<Brand>(alloc, design, paper, Blank::new(1))?;
+    let long = long_columns(alloc, design, &raw)?;
+    bind_rows(alloc, design, &raw, &long)
 }
 
 /// The cloth of a paper, one repeat, as a weaver draws it down: each end has the bound cells of its column.
@@ -40,82 +46,67 @@ pub fn drawdown(alloc: Global, design: &Design, paper: &Paper) -> Result<Cloth, 
     let mut cloth = Cloth::blank(alloc, design.tie.ends(), design.size.picks)?;
     let mut row = BitRow::new(alloc, design.tie.ends())?;
     for pick in 0..design.size.picks {
-        tie_row(&design.tie, bits.row(pick), &mut row);
+        design.tie.lay(bits.row(pick), &mut row);
         cloth.set_row(pick, &row);
     }
     Ok(cloth)
 }
 
-// The readings of the paper tick a counter of their own, which goes with the call.
-fn bound_with<L: Ledger>(
+// The raw cells of a paper. Its readings tick a counter of their own, which goes with the call.
+fn raw_with<L: Ledger>(
     alloc: Global,
     design: &Design,
     paper: &Paper,
     blank: Blank,
-) -> Result<BitPaper, OutOfMemory>
+) -> Result<BitGrid, OutOfMemory>
     requires fits { Fits design.now }
     requires paper { IsPaperOf design.now paper.now }
     requires blank { (blank.name ≡ L.name) × (blank.parts ≡ L.parts) × (L.parts ≡ 1) }
-    ensures { IfOk result (λ bits. bits ≡ bound_of design.now paper.now) }
+    ensures { IfOk result (λ raw. bits_of raw ≡ raw_of design.now.book paper.now) }
 {
     let (book, all) = blank.open::<L>();
     let mut steps = Steps::new(book, all);
-    let mut bits = BitPaper::new(alloc, design.size)?;
+    let mut raw = BitGrid::new(alloc, design.size.columns, design.size.picks)?;
     let mut colours = Vec::from_elem(alloc, 0u8, design.size.columns as usize)?;
     let mut row = BitRow::new(alloc, design.size.columns)?;
     for pick in 0..design.size.picks {
-        raw_row(
-            &design.book,
-            paper,
-            pick,
-            &mut colours,
-            &mut row,
-            &mut steps,
-        );
+        read_pick(paper, pick, &mut colours, &mut steps);
+        design.book.put_raw(&colours, pick, &mut row);
+        raw.set_row(pick, &row);
+    }
+    Ok(raw)
+}
+
+// The colour numbers of a pick.
+fn read_pick<L: Ledger>(paper: &Paper, pick: u32, colours: &mut Vec<u8>, steps: &mut Steps<L>)
+    requires pick { pick < paper.now.picks }
+    requires colours { length colours.old.items ≡ paper.now.columns }
+    ensures { colours.new.items ≡ pick_of paper.now pick }
+{
+    paper.line(LineKind::Pick, pick, colours, steps);
+}
+
+// The bound cells of raw ones, where for each column of each pick it is known whether some end of it is long.
+fn bind_rows(
+    alloc: Global,
+    design: &Design,
+    raw: &BitGrid,
+    long: &BitGrid,
+) -> Result<BitPaper, OutOfMemory>
+    requires fits { Fits design.now }
+    requires raw { IsGridOf design.now raw.now }
+    requires long { long.now ≡ record { width = design.now.size.columns; rows = rows_by design.now.size.columns design.now.size.picks (column_long design.now (bits_of raw.now)) } }
+    ensures { IfOk result (λ bits. bits ≡ record { columns = design.now.size.columns; rows = rows_by design.now.size.columns design.now.size.picks (cell_bound design.now (bits_of raw.now)) }) }
+{
+    let mut bits = BitPaper::new(alloc, design.size)?;
+    let mut raise = BitRow::new(alloc, design.size.columns)?;
+    let mut sink = BitRow::new(alloc, design.size.columns)?;
+    let mut row = BitRow::new(alloc, design.size.columns)?;
+    for pick in 0..design.size.picks {
+        design.raise.put_row(pick, &mut raise);
+        design.sink.put_row(pick, &mut sink);
+        bind_line(raw.row(pick), long.row(pick), &raise, &sink, &mut row);
         bits.set_row(pick, &row);
     }
     Ok(bits)
-}
-
-// The raw cells of a pick.
-fn raw_row<L: Ledger>(
-    book: &Book,
-    paper: &Paper,
-    pick: u32,
-    colours: &mut Vec<u8>,
-    row: &mut BitRow,
-    steps: &mut Steps<L>,
-)
-    requires pick { pick < paper.now.picks }
-    requires colours { length colours.old.items ≡ paper.now.columns }
-    requires columns { length row.old ≡ paper.now.columns }
-    requires book { (column : ℕ) → column < paper.now.columns → cell_of paper.now column pick < length book.now }
-    ensures row { row.new ≡ line_by paper.now.columns (λ column. raw_cell book.now paper.now column pick) }
-    ensures colours { length colours.new.items ≡ paper.now.columns }
-{
-    paper.line(LineKind::Pick, pick, colours, steps);
-    mark_row(book, colours, pick, row);
-}
-
-// The marks of a pick's colours.
-fn mark_row(book: &Book, colours: &[u8], pick: u32, row: &mut BitRow)
-    requires colours { All (λ colour. colour < length book.now) colours.now }
-    requires columns { length row.old ≡ length colours.now }
-    ensures { row.new ≡ line_by (length colours.now) (λ column. mark (weave_of book.now (slice_index colours.now column)) column pick) }
-{
-    for column in 0..row.len() {
-        let weave = book.weave(colours[column as usize]);
-        row.set(column, weave.mark(column, pick));
-    }
-}
-
-// The cells of a row at the column of each end.
-fn tie_row(tie: &Tie, bits: &BitRow, row: &mut BitRow)
-    requires tied { All (λ column. column < length bits.now) tie.now.ends }
-    requires ends { length row.old ≡ length tie.now.ends }
-    ensures { row.new ≡ tied tie.now.ends bits.now }
-{
-    for end in 0..row.len() {
-        row.set(end, bits.get(tie.column(end)));
-    }
 }

@@ -5,6 +5,9 @@
 pub mod cloth;
 pub mod design;
 pub mod drawdown;
+pub mod first_float;
 pub mod float_run;
+pub mod laws;
+mod long_columns;
 #[cfg(test)]
 mod tests;

@@ -1,12 +1,13 @@
-//! Cloths drawn by hand. A `#` is a lifted cell, and the rows are written from pick 0 on.
-ghost use Rattle.std.specs.Prelude.{◌≡◌, ◌*◌, ◌<◌, ◌≤◌, nat_lt, ℕ, true, length, IfOk};
-ghost use Rattle.std.specs.List.{list_all};
+//! Cloths drawn by hand, and the first floats that they keep. A `#` is a lifted cell, and rows are written from pick 0 on.
+ghost use Rattle.std.specs.Prelude.{◌≡◌, ◌<◌, ℕ, length, IfOk};
 ghost use Rattle.point_paper.specs.Papers.{cell_of};
 ghost use Rattle.draft_model.specs.Designs.{Fits};
 
 use crate::cloth::Cloth;
 use crate::design::Design;
 use crate::drawdown::{bound, drawdown};
+use crate::first_float::first_float;
+use crate::float_run::{FloatKind, FloatRun};
 use casting_out::casting::Casting;
 use harness_ties::section::{Section, SectionKind};
 use harness_ties::tie::Tie;
@@ -19,159 +20,308 @@ use std::test::Fail;
 use weave_book::book::Book;
 use weave_book::weaves::Weave;
 
-fn is_drawn(row: &BitRow, drawing: &str) -> bool {
-    let cells = drawing.as_bytes();
-    if row.len() as usize != cells.len() {
-        return false;
-    }
-    for (at, cell) in cells.iter().enumerate() {
-        if row.get(at as u32) != (*cell == b'#') {
-            return false;
-        }
-    }
-    true
-}
-
-fn are_drawn(cloth: &Cloth, drawing: &[&str]) -> bool {
-    if cloth.picks() as usize != drawing.len() {
-        return false;
-    }
-    for (pick, row) in drawing.iter().enumerate() {
-        if !is_drawn(cloth.row(pick as u32), *row) {
-            return false;
-        }
-    }
-    true
-}
-
-fn two_colours(alloc: Global, weaves: [&str; 2]) -> Result<Book, Fail>
-    ensures { IfOk result (λ b. length b ≡ 2) }
-{
-    let mut book = Book::new(alloc);
-    book.add(Weave::parse(weaves[0])?)?;
-    book.add(Weave::parse(weaves[1])?)?;
-    Ok(book)
-}
-
-/// A design of two picks and two colours whose tie is one round over all columns.
-fn design_of(
-    rt: &impl Abort,
-    alloc: Global,
+/// A paper of one colour: its weave, the tie (one round over all columns), the limits of weft floats on the face and on the back and of
+/// warp floats on the face and on the back, and the binders; then the rows of the cloth, and the first float that it keeps.
+#[derive(Drop)]
+struct Case {
+    name: &'static str,
     columns: u32,
-    weaves: [&str; 2],
+    picks: u32,
+    weave: &'static str,
     kind: SectionKind,
-) -> Result<Design, Fail>
-    requires some { 1 ≤ columns }
-    requires few { columns ≤ 64 }
+    limits: [u32; 4],
+    binders: [&'static str; 2],
+    rows: &'static [&'static str],
+    first: Option<FloatRun>,
+}
+
+fn weft(line: u32, start: u32, length: u32, endless: bool) -> Option<FloatRun> {
+    Some(FloatRun {
+        kind: FloatKind::Weft,
+        line,
+        start,
+        length,
+        endless,
+    })
+}
+
+fn design_of(rt: &impl Abort, alloc: Global, case: &Case) -> Result<Design, Fail>
     ensures fits { IfOk result (λ d. Fits d) }
-    ensures size { IfOk result (λ d. d.size ≡ record { columns = columns; picks = 2 }) }
-    ensures colours { IfOk result (λ d. length d.book ≡ 2) }
+    ensures size { IfOk result (λ d. d.size ≡ record { columns = case.now.columns; picks = case.now.picks }) }
+    ensures colours { IfOk result (λ d. length d.book ≡ 1) }
 {
+    let (columns, picks) = (case.columns, case.picks);
+    let [weft_face, weft_back, warp_face, warp_back] = case.limits;
+    assert!(rt; 1 <= columns && columns <= 64 && 1 <= picks && picks <= 64);
+    assert!(rt; 1 <= weft_face && weft_face <= 255 && 1 <= weft_back && weft_back <= 255);
+    assert!(rt; 1 <= warp_face && warp_face <= 255 && 1 <= warp_back && warp_back <= 255);
     let round = Section {
-        kind,
+        kind: case.kind,
         from: 0,
         to: columns - 1,
         times: 1,
     };
     let tie = Tie::build(alloc, &[round], columns)?;
+    let mut book = Book::new(alloc);
+    book.add(Weave::parse(case.weave)?)?;
     assert!(rt; 1 <= tie.ends());
     Ok(Design {
-        size: Size { columns, picks: 2 },
-        book: two_colours(alloc, weaves)?,
+        size: Size { columns, picks },
+        book,
         tie,
         casting: Casting::build(alloc, 64, &[], columns)?,
-        raise: Weave::Full,
-        sink: Weave::Full,
-        weft_face: 1,
-        weft_back: 1,
-        warp_face: 1,
-        warp_back: 1,
+        raise: Weave::parse(case.binders[0])?,
+        sink: Weave::parse(case.binders[1])?,
+        weft_face,
+        weft_back,
+        warp_face,
+        warp_back,
         tile: 4,
     })
 }
 
-/// A paper of two picks; the image's lower row is pick 0.
-fn paper_of(alloc: Global, columns: u32, image: &[u8]) -> Result<Paper, Fail>
-    requires size { length image.now ≡ 2 * columns }
-    requires colours { list_all (λ colour. nat_lt colour 2) image.now ≡ true }
-    ensures columns { IfOk result (λ p. p.columns ≡ columns) }
-    ensures picks { IfOk result (λ p. p.picks ≡ 2) }
-    ensures colours { IfOk result (λ p. (column pick : ℕ) → column < p.columns → pick < p.picks → cell_of p column pick < 2) }
-{
-    Ok(Paper::from_rows(alloc, Size { columns, picks: 2 }, image)?)
+fn drawn(alloc: Global, row: &BitRow) -> Result<String, Fail> {
+    let mut text = String::new(alloc);
+    for k in 0..row.len() {
+        text.push(if row.get(k) { '#' } else { '.' })?;
+    }
+    Ok(text)
 }
 
-fn expect_drawn(
+fn expect_rows(
     rt: &impl Abort,
     alloc: Global,
-    columns: u32,
-    weaves: [&str; 2],
-    kind: SectionKind,
-    image: &[u8],
-    paper_rows: [&str; 2],
-    cloth_rows: [&str; 2],
-) -> Result<(), Fail>
-    requires some { 1 ≤ columns }
-    requires few { columns ≤ 64 }
-    requires size { length image.now ≡ 2 * columns }
-    requires colours { list_all (λ colour. nat_lt colour 2) image.now ≡ true }
-{
-    let design = design_of(rt, alloc, columns, weaves, kind)?;
-    let paper = paper_of(alloc, columns, image)?;
-    let bits = bound(alloc, &design, &paper)?;
-    let cloth = drawdown(alloc, &design, &paper)?;
-    let same = drawdown(alloc, &design.copy()?, &paper)?;
-    assert!(rt; bits.rows().len() == 2);
-    assert!(rt;
-        is_drawn(&bits.rows()[0], paper_rows[0]) && is_drawn(&bits.rows()[1], paper_rows[1])
-    );
-    assert!(rt; are_drawn(&cloth, &cloth_rows) && are_drawn(&same, &cloth_rows));
+    cloth: &Cloth,
+    rows: &[&str],
+    name: &str,
+) -> Result<(), Fail> {
+    assert_eq!(rt; cloth.picks() as usize, rows.len(), "{name}");
+    for pick in 0..cloth.picks() {
+        let row = drawn(alloc, cloth.row(pick))?;
+        assert_eq!(rt; row.as_str(), rows[pick as usize], "{name}, pick {pick}");
+    }
     Ok(())
 }
 
+/// A paper of colour 0 throughout.
+fn blank_paper(alloc: Global, size: Size) -> Result<Paper, Fail>
+    ensures columns { IfOk result (λ p. p.columns ≡ size.columns) }
+    ensures picks { IfOk result (λ p. p.picks ≡ size.picks) }
+    ensures colours { IfOk result (λ p. (column pick : ℕ) → column < p.columns → pick < p.picks → cell_of p column pick ≡ 0) }
+{
+    Ok(Paper::blank(alloc, size, 0)?)
+}
+
+fn expect_case(rt: &impl Abort, alloc: Global, case: &Case) -> Result<(), Fail> {
+    let design = design_of(rt, alloc, case)?;
+    let paper = blank_paper(alloc, design.size)?;
+    let bits = bound(alloc, &design, &paper)?;
+    let cloth = drawdown(alloc, &design.copy()?, &paper)?;
+    expect_rows(rt, alloc, &cloth, case.rows, case.name)?;
+    assert_eq!(rt; first_float(&design, &bits), case.first, "{}", case.name);
+    Ok(())
+}
+
+/// A case without binders.
+fn unbound(
+    name: &'static str,
+    columns: u32,
+    picks: u32,
+    weave: &'static str,
+    kind: SectionKind,
+    limits: [u32; 4],
+    rows: &'static [&'static str],
+    first: Option<FloatRun>,
+) -> Case {
+    Case {
+        name,
+        columns,
+        picks,
+        weave,
+        kind,
+        limits,
+        binders: ["blank", "blank"],
+        rows,
+        first,
+    }
+}
+
+const EDGE: &str = "rows 001100 110011";
+
+const EDGE_ROWS: [&str; 2] = ["..##..", "##..##"];
+
+const MENDED: [&str; 8] = [
+    "#.......", "...#....", "......#.", ".#......", "....#...", ".......#", "..#.....", ".....#..",
+];
+
+const FULL: [&str; 8] = ["########"; 8];
+
+const SATIN_ROWS: [&str; 5] = ["#....", "...#.", ".#...", "....#", "..#.."];
+
 #[test]
-fn plain_is_drawn_through_a_straight_tie(rt: HostRuntime) -> Result<(), Fail> {
-    let alloc = rt.alloc();
-    expect_drawn(
-        &rt,
-        alloc,
-        2,
-        ["plain", "blank"],
-        SectionKind::Straight,
-        &[0, 0, 0, 0],
-        ["#.", ".#"],
-        ["#.", ".#"],
-    )
+fn floats_are_followed_round_the_edges_and_over_the_ends(rt: HostRuntime) -> Result<(), Fail> {
+    let straight = SectionKind::Straight;
+    let pointed = SectionKind::Pointed;
+    let turning = "rows 10 01 01 10";
+    let warp = Some(FloatRun {
+        kind: FloatKind::Warp,
+        line: 0,
+        start: 3,
+        length: 2,
+        endless: false,
+    });
+    for case in [
+        unbound(
+            "one end",
+            1,
+            2,
+            "plain",
+            straight,
+            [1; 4],
+            &["#", "."],
+            weft(0, 0, 1, true),
+        ),
+        unbound(
+            "round the edge",
+            6,
+            2,
+            EDGE,
+            straight,
+            [3; 4],
+            &EDGE_ROWS,
+            weft(0, 4, 4, false),
+        ),
+        unbound(
+            "at the limit",
+            6,
+            2,
+            EDGE,
+            straight,
+            [4; 4],
+            &EDGE_ROWS,
+            None,
+        ),
+        unbound(
+            "satin at its limit",
+            5,
+            5,
+            "satin 5 2 weft",
+            straight,
+            [4; 4],
+            &SATIN_ROWS,
+            None,
+        ),
+        unbound(
+            "satin",
+            5,
+            5,
+            "satin 5 2 weft",
+            straight,
+            [3; 4],
+            &SATIN_ROWS,
+            weft(0, 1, 4, false),
+        ),
+        unbound(
+            "through the tie",
+            3,
+            2,
+            "rows 100 011",
+            pointed,
+            [2; 4],
+            &["#...", ".###"],
+            weft(0, 1, 3, false),
+        ),
+        unbound(
+            "through the tie, allowed",
+            3,
+            2,
+            "rows 100 011",
+            pointed,
+            [3; 4],
+            &["#...", ".###"],
+            None,
+        ),
+        unbound(
+            "on the back",
+            6,
+            2,
+            EDGE,
+            straight,
+            [4, 3, 1, 1],
+            &EDGE_ROWS,
+            weft(1, 4, 4, false),
+        ),
+        unbound(
+            "on the face",
+            6,
+            2,
+            EDGE,
+            straight,
+            [3, 4, 1, 1],
+            &EDGE_ROWS,
+            weft(0, 4, 4, false),
+        ),
+        unbound(
+            "on neither",
+            6,
+            2,
+            EDGE,
+            straight,
+            [4, 4, 1, 1],
+            &EDGE_ROWS,
+            None,
+        ),
+        unbound(
+            "round the top edge",
+            2,
+            4,
+            turning,
+            straight,
+            [1, 1, 1, 2],
+            &["#.", ".#", ".#", "#."],
+            warp,
+        ),
+        unbound(
+            "reversed",
+            3,
+            2,
+            "rows 100 011",
+            SectionKind::Reverse,
+            [2; 4],
+            &["..#", "##."],
+            None,
+        ),
+    ] {
+        expect_case(&rt, rt.alloc(), &case)?;
+    }
+    Ok(())
+}
+
+/// Eight columns and picks of `blank`, each line of which is endless.
+fn blank_case(
+    binders: [&'static str; 2],
+    rows: &'static [&'static str],
+    first: Option<FloatRun>,
+) -> Case {
+    Case {
+        name: binders[0],
+        columns: 8,
+        picks: 8,
+        weave: "blank",
+        kind: SectionKind::Straight,
+        limits: [7; 4],
+        binders,
+        rows,
+        first,
+    }
 }
 
 #[test]
-fn rows_are_drawn_through_a_pointed_tie(rt: HostRuntime) -> Result<(), Fail> {
-    let alloc = rt.alloc();
-    expect_drawn(
-        &rt,
-        alloc,
-        3,
-        ["rows 100 011", "blank"],
-        SectionKind::Pointed,
-        &[0, 0, 0, 0, 0, 0],
-        ["#..", ".##"],
-        ["#...", ".###"],
-    )
-}
-
-#[test]
-fn each_colour_has_its_weave_on_its_own_pick(rt: HostRuntime) -> Result<(), Fail> {
-    let alloc = rt.alloc();
-    expect_drawn(
-        &rt,
-        alloc,
-        3,
-        ["plain", "blank"],
-        SectionKind::Reverse,
-        &[1, 0, 0, 0, 0, 1],
-        ["#..", ".#."],
-        ["..#", ".#."],
-    )
+fn binders_break_long_floats_in_one_pass(rt: HostRuntime) -> Result<(), Fail> {
+    let mended = blank_case(["satin 8 3 weft", "blank"], &MENDED, None);
+    expect_case(&rt, rt.alloc(), &mended)?;
+    let full = blank_case(["full", "plain"], &FULL, weft(0, 0, 8, true));
+    expect_case(&rt, rt.alloc(), &full)
 }
 
 #[test]
@@ -181,13 +331,10 @@ fn a_cloth_is_unlifted_until_a_row_is_set(rt: HostRuntime) -> Result<(), Fail> {
     let mut row = BitRow::new(alloc, 3)?;
     row.set(0, true);
     row.set(2, true);
-    assert!(rt; cloth.ends() == 3 && cloth.picks() == 2);
-    assert!(rt; are_drawn(&cloth, &["...", "..."]));
+    expect_rows(&rt, alloc, &cloth, &["...", "..."], "blank")?;
     cloth.set_row(1, &row);
     let copy = cloth.copy()?;
-    assert!(rt; are_drawn(&cloth, &["...", "#.#"]));
     cloth.set_row(0, &row);
-    assert!(rt; are_drawn(&cloth, &["#.#", "#.#"]));
-    assert!(rt; are_drawn(&copy, &["...", "#.#"]));
-    Ok(())
+    expect_rows(&rt, alloc, &cloth, &["#.#", "#.#"], "both rows set")?;
+    expect_rows(&rt, alloc, &copy, &["...", "#.#"], "one row set")
 }

@@ -1,6 +1,7 @@
 -- Which sessions can be run.
 use Rattle.std.specs.Prelude.{◌≡◌, ℕ, ◌<◌, ◌≤◌, List, [], length, sum_by, slice_index_or, All}
-use Rattle.draft_model.specs.Designs.{Fits, IsPaperOf, IsWithin}
+use Rattle.draft_model.specs.Designs.{Fits, IsPaperOf}
+use Rattle.mill_base.specs.Limits.{IsWithin}
 use Rattle.draft_model.specs.declared.design.Design.{Design}
 use Rattle.studio_run.specs.declared.strokes.Act.{Act}
 use Rattle.studio_run.specs.declared.strokes.Act.TheVariants.{Dot, Commit}

@@ -13,7 +13,7 @@ use Rattle.weave_book.specs.declared.weaves.Weave.TheVariants.{Blank, Plain}
 use Rattle.point_paper.specs.Papers.{paper_by}
 use Rattle.harness_ties.specs.Ties.{tie_of}
 use Rattle.casting_out.specs.Castings.{casting_of}
-use Rattle.draft_model.specs.Designs.{IsWithin}
+use Rattle.mill_base.specs.Limits.{IsWithin}
 use Rattle.draft_model.specs.declared.design.Design.{Design}
 use Rattle.studio_run.specs.declared.strokes.Act.{Act}
 use Rattle.studio_run.specs.declared.strokes.Act.TheVariants.{Dot, Commit}

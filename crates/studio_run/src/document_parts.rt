@@ -3,7 +3,7 @@ ghost use Rattle.std.specs.Prelude.{◌≡◌, bytes_eq, map, option_map, IfSome
 ghost use Rattle.std.specs.List.{list_any};
 ghost use Rattle.toml.specs.View.{table_view, view};
 ghost use Rattle.toml.specs.Data.{get_member};
-ghost use Rattle.draft_model.specs.Designs.{IsWithin};
+ghost use Rattle.mill_base.specs.Limits.{IsWithin};
 ghost use Rattle.studio_run.specs.Sessions.{even_at, has_only, list_at, list_in, number_at, number_between as between, number_in, only_item, table_of};
 
 use toml::{Table, Value};

@@ -1,7 +1,7 @@
 //! The session of a plain design, from the numbers of its document.
 ghost use Rattle.std.specs.Prelude.{◌≡◌, ◌≤◌, [], replicate, IfOk};
 ghost use Rattle.weave_book.specs.declared.weaves.Weave.TheVariants.{Plain};
-ghost use Rattle.draft_model.specs.Designs.{IsWithin};
+ghost use Rattle.mill_base.specs.Limits.{IsWithin};
 ghost use Rattle.harness_ties.specs.Ties.{tie_of};
 ghost use Rattle.casting_out.specs.Castings.{casting_of};
 ghost use Rattle.studio_run.specs.Sessions.{plain_design, plain_session};

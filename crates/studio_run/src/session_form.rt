@@ -4,7 +4,7 @@
 ghost use Rattle.std.specs.Prelude.{◌≡◌, ◌≤◌, Some, bytes_eq, codes, map, option_map, IfOk, IfSome};
 ghost use Rattle.std.specs.List.{list_all};
 ghost use Rattle.toml.specs.View.{table_view, view};
-ghost use Rattle.draft_model.specs.Designs.{IsWithin};
+ghost use Rattle.mill_base.specs.Limits.{IsWithin};
 ghost use Rattle.studio_run.specs.Sessions.{act_in, act_of_words, acts_of, colours_at, colours_of, design_of, design_table_of, dot_of, dot_of_words, guarded, is_plain as plain_in, is_plain_colour, painters_of, painters_of_lists, repeats_of, session_of, session_of_keys, session_of_tables, shift_of, shift_table_of, show_of_word, shown_of};
 
 use crate::document_parts::{

@@ -1,0 +1,2 @@
+pub mod ClothLines
+pub mod LongCells
