@@ -5,3 +5,4 @@ pub mod Designs
 pub mod Drawdowns
 pub mod Floats
 pub mod Inner
+pub mod Texts

@@ -1,4 +1,10 @@
 //! A float of a cloth.
+ghost use Rattle.std.specs.Prelude.{◌≡◌, Some};
+ghost use Rattle.mill_base.specs.Phrases.{phrase_text};
+ghost use Rattle.draft_model.specs.Texts.{float_text, kind_word, end_word};
+
+use mill_base::phrase::{Phrase, whole};
+use std::fmt;
 
 /// Along what a float runs.
 #[derive(Clone, Copy, Debug, PartialEq, Eq)]
@@ -20,4 +26,41 @@ pub struct FloatRun {
     pub start: u32,
     pub length: u32,
     pub endless: bool,
+}
+
+impl FloatRun {
+    /// The float in words, as a refused commit is told: `weft 2 start 9 length 16`, and `endless` behind it where it is. It takes no
+    /// memory.
+    pub fn phrase(&self) -> Phrase
+        ensures { phrase_text result ≡ float_text self.now }
+    {
+        let end = if self.endless { " endless" } else { "" };
+        Phrase::Three(
+            word_of(self.kind),
+            whole(self.line),
+            " start ",
+            whole(self.start),
+            " length ",
+            whole(self.length),
+            end,
+        )
+    }
+}
+
+fn word_of(kind: FloatKind) -> &'static str
+    ensures { result.now ≡ kind_word kind }
+{
+    match kind {
+        FloatKind::Weft => "weft ",
+        FloatKind::Warp => "warp ",
+    }
+}
+
+impl fmt::Display for FloatRun {
+    ghost output = { λ run. Some (float_text run) };
+
+    fn fmt<W: fmt::Write>(&self, f: &mut fmt::Formatter<W>) -> fmt::Result {
+        let phrase = self.phrase();
+        write!(f, "{phrase}")
+    }
 }
