@@ -12,6 +12,7 @@ use casting_out::casting::Casting;
 use harness_ties::section::{Section, SectionKind};
 use harness_ties::tie::Tie;
 use mill_base::bit_row::BitRow;
+use mill_base::limits::{MAX_CLOTH_CELLS, MAX_COLUMNS, MAX_PICKS};
 use mill_base::size::Size;
 use point_paper::paper::Paper;
 use std::alloc::Global;
@@ -52,7 +53,7 @@ fn design_of(rt: &impl Abort, alloc: Global, case: &Case) -> Result<Design, Fail
 {
     let (columns, picks) = (case.columns, case.picks);
     let [weft_face, weft_back, warp_face, warp_back] = case.limits;
-    assert!(rt; 1 <= columns && columns <= 64 && 1 <= picks && picks <= 64);
+    assert!(rt; 1 <= columns && columns <= MAX_COLUMNS && 1 <= picks && picks <= MAX_PICKS);
     assert!(rt; 1 <= weft_face && weft_face <= 255 && 1 <= weft_back && weft_back <= 255);
     assert!(rt; 1 <= warp_face && warp_face <= 255 && 1 <= warp_back && warp_back <= 255);
     let round = Section {
@@ -64,12 +65,12 @@ fn design_of(rt: &impl Abort, alloc: Global, case: &Case) -> Result<Design, Fail
     let tie = Tie::build(alloc, &[round], columns)?;
     let mut book = Book::new(alloc);
     book.add(Weave::parse(case.weave)?)?;
-    assert!(rt; 1 <= tie.ends());
+    assert!(rt; 1 <= tie.ends() && tie.ends() as u64 * picks as u64 <= MAX_CLOTH_CELLS);
     Ok(Design {
         size: Size { columns, picks },
         book,
         tie,
-        casting: Casting::build(alloc, 64, &[], columns)?,
+        casting: Casting::build(alloc, MAX_COLUMNS, &[], columns)?,
         raise: Weave::parse(case.binders[0])?,
         sink: Weave::parse(case.binders[1])?,
         weft_face,
@@ -337,4 +338,51 @@ fn a_cloth_is_unlifted_until_a_row_is_set(rt: HostRuntime) -> Result<(), Fail> {
     cloth.set_row(0, &row);
     expect_rows(&rt, alloc, &cloth, &["#.#", "#.#"], "both rows set")?;
     expect_rows(&rt, alloc, &copy, &["...", "#.#"], "one row set")
+}
+
+#[test]
+fn the_greatest_paper_is_bound(rt: HostRuntime) -> Result<(), Fail> {
+    let alloc = rt.alloc();
+    let case = unbound(
+        "the greatest",
+        MAX_COLUMNS,
+        MAX_PICKS,
+        "plain",
+        SectionKind::Straight,
+        [1; 4],
+        &[],
+        None,
+    );
+    let design = design_of(&rt, alloc, &case)?;
+    let paper = blank_paper(alloc, design.size)?;
+    let bits = bound(alloc, &design, &paper)?;
+    assert_eq!(rt; first_float(&design, &bits), case.first);
+    let cloth = drawdown(alloc, &design, &paper)?;
+    assert!(rt; cloth.picks() == MAX_PICKS);
+    assert_eq!(rt; cloth.row(0).count(), MAX_COLUMNS / 2);
+    Ok(())
+}
+
+#[test]
+fn floats_are_told_in_words(rt: HostRuntime) -> Result<(), Fail> {
+    let ending = FloatRun {
+        kind: FloatKind::Warp,
+        line: 16_383,
+        start: 8191,
+        length: 256,
+        endless: false,
+    };
+    let endless = FloatRun {
+        kind: FloatKind::Weft,
+        line: 0,
+        start: 0,
+        length: 1,
+        endless: true,
+    };
+    let told = format!(in rt.alloc(); "{ending}, {endless}")?;
+    assert_eq!(rt;
+        told.as_str(),
+        "warp 16383 start 8191 length 256, weft 0 start 0 length 1 endless"
+    );
+    Ok(())
 }
