@@ -2,6 +2,7 @@
 use Rattle.std.specs.Prelude.{◌≡◌, ℕ, ◌<◌, ◌≤◌, List, [], length, sum_by, slice_index_or, All}
 use Rattle.draft_model.specs.Designs.{Fits, IsPaperOf}
 use Rattle.mill_base.specs.Limits.{IsWithin}
+use Rattle.mill_base.specs.declared.limits.TheConstants.{MAX_ACTS, MAX_LOOMS, MAX_PAINTERS, MAX_SHIFTS}
 use Rattle.draft_model.specs.declared.design.Design.{Design}
 use Rattle.studio_run.specs.declared.strokes.Act.{Act}
 use Rattle.studio_run.specs.declared.strokes.Act.TheVariants.{Dot, Commit}
@@ -23,18 +24,18 @@ IsActOf design Commit = Unit {0}
 -- a number of repeats for each loom, and acts that paint inside the paper
 pub record FitsPlan (session : Session) (plan : ShiftPlan) : Type 0 where
   pub repeats : length plan.repeats ≡ session.looms
-  pub painters : length plan.painters ≤ 64
+  pub painters : length plan.painters ≤ MAX_PAINTERS
   pub acts : (painter : ℕ) → painter < length plan.painters → All (IsActOf session.design) (acts_of_painter plan painter)
 
 -- the parts of a session go together, and its numbers are within the studio's limits
 pub record FitsSession (session : Session) : Type 0 where
   pub design : Fits session.design
   pub opening : IsPaperOf session.design session.opening
-  pub looms : IsWithin 1 session.looms 64
+  pub looms : IsWithin 1 session.looms MAX_LOOMS
   pub faces : length session.faces ≡ session.looms
-  pub shifts : IsWithin 1 (length session.shifts) 256
+  pub shifts : IsWithin 1 (length session.shifts) MAX_SHIFTS
   pub plans : (shift : ℕ) → shift < length session.shifts → FitsPlan session (plan_of session shift)
-  pub acts : sum_by (λ plan. sum_by length plan.painters) session.shifts ≤ 65536
+  pub acts : sum_by (λ plan. sum_by length plan.painters) session.shifts ≤ MAX_ACTS
 
 -- one shift, one loom and at most one painter: all that is run so far
 pub record RunsAlone (session : Session) : Type 0 where

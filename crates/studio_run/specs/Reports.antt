@@ -6,9 +6,7 @@ use Rattle.mill_base.specs.declared.size.Size.{Size}
 use Rattle.mill_base.specs.declared.face.Face.{Face}
 use Rattle.mill_base.specs.declared.face.Face.TheVariants.{Up, Down}
 use Rattle.draft_model.specs.Cloths.{ClothCells}
-use Rattle.draft_model.specs.declared.float_run.FloatRun.{FloatRun}
-use Rattle.draft_model.specs.declared.float_run.FloatKind.{FloatKind}
-use Rattle.draft_model.specs.declared.float_run.FloatKind.TheVariants.{Weft, Warp}
+use Rattle.draft_model.specs.Texts.{float_text}
 use Rattle.draft_model.specs.declared.design.Design.{Design}
 use Rattle.studio_run.specs.declared.session_file.Session.{Session}
 use Rattle.studio_run.specs.declared.version_journal.Reply.{Reply}
@@ -33,15 +31,6 @@ size_text size = numbered (codes "design columns ") size.columns ++ numbered (co
 
 abbrev pub design_line : Design → List ℕ
 design_line design = size_text design.size ++ numbered (codes " ends ") (length design.tie.ends) ++ numbered (codes " hooks ") design.casting.hooks ++ codes "\n"
-
--- FLOAT: `weft` or `warp`, the line, `start`, the start, `length`, the length, and `endless` where it is endless
-abbrev pub kind_word : FloatKind → List ℕ
-kind_word Weft = codes "weft "
-kind_word Warp = codes "warp "
-
-abbrev pub float_text : FloatRun → List ℕ
-float_text run = numbered (kind_word run.kind) run.line ++ numbered (codes " start ") run.start ++ numbered (codes " length ") run.length
-    ++ (if run.endless then codes " endless" else [])
 
 -- REPLY: `paint`, `accepted V` or `refused FLOAT`
 abbrev pub reply_text : Reply → List ℕ

@@ -14,6 +14,7 @@ use Rattle.point_paper.specs.Papers.{paper_by}
 use Rattle.harness_ties.specs.Ties.{tie_of}
 use Rattle.casting_out.specs.Castings.{casting_of}
 use Rattle.mill_base.specs.Limits.{IsWithin}
+use Rattle.mill_base.specs.declared.limits.TheConstants.{DEFAULT_TILE}
 use Rattle.draft_model.specs.declared.design.Design.{Design}
 use Rattle.studio_run.specs.declared.strokes.Act.{Act}
 use Rattle.studio_run.specs.declared.strokes.Act.TheVariants.{Dot, Commit}
@@ -187,7 +188,7 @@ plain_design colours form = record {
   weft_back = form.weft;
   warp_face = form.warp;
   warp_back = form.warp;
-  tile = 32;
+  tile = DEFAULT_TILE;
 }
 
 unfoldable pub plain_session : Bool → ℕ → DesignForm → ShiftPlan → Session

@@ -37,9 +37,7 @@ fn is_among(keys: &[&str], key: &str) -> bool
 pub(crate) fn table_in<'a>(value: &'a Value, keys: &[&str]) -> Option<&'a Table>
     ensures { option_map (λ table. table_view table.now) result ≡ table_of (map (λ key. key.now) keys.now) (view value.now) }
 {
-    let Some(table) = value.as_table() else {
-        return None;
-    };
+    let table = value.as_table()?;
     if !has_only_keys(table, keys) {
         return None;
     }
@@ -50,9 +48,7 @@ pub(crate) fn table_in<'a>(value: &'a Value, keys: &[&str]) -> Option<&'a Table>
 pub(crate) fn items_in(value: &Value) -> Option<&[Value]>
     ensures { option_map (λ items. map view items.now) result ≡ list_in (view value.now) }
 {
-    let Some(array) = value.as_array() else {
-        return None;
-    };
+    let array = value.as_array()?;
     Some(array.as_slice())
 }
 
@@ -60,9 +56,7 @@ pub(crate) fn items_in(value: &Value) -> Option<&[Value]>
 pub(crate) fn items_under<'a>(table: &'a Table, key: &str) -> Option<&'a [Value]>
     ensures { option_map (λ items. map view items.now) result ≡ list_at key.now (table_view table.now) }
 {
-    let Some(value) = value_under(table, key) else {
-        return None;
-    };
+    let value = value_under(table, key)?;
     items_in(value)
 }
 
@@ -94,9 +88,7 @@ pub(crate) fn number_of_value(value: &Value, least: u32, greatest: u32) -> Optio
     ensures number { result ≡ number_in least greatest (view value.now) }
     ensures within { IfSome result (λ n. IsWithin least n greatest) }
 {
-    let Some(number) = value.as_integer() else {
-        return None;
-    };
+    let number = value.as_integer()?;
     number_between(least, greatest, number)
 }
 
@@ -105,9 +97,7 @@ pub(crate) fn number_under(table: &Table, key: &str, least: u32, greatest: u32) 
     ensures number { result ≡ number_at least greatest key.now (table_view table.now) }
     ensures within { IfSome result (λ n. IsWithin least n greatest) }
 {
-    let Some(value) = value_under(table, key) else {
-        return None;
-    };
+    let value = value_under(table, key)?;
     number_of_value(value, least, greatest)
 }
 
@@ -115,9 +105,7 @@ pub(crate) fn number_under(table: &Table, key: &str, least: u32, greatest: u32) 
 pub(crate) fn even_under(table: &Table, key: &str) -> Option<u32>
     ensures { result ≡ even_at key.now (table_view table.now) }
 {
-    let Some(number) = number_under(table, key, 2, 64) else {
-        return None;
-    };
+    let number = number_under(table, key, 2, 64)?;
     if number % 2 != 0 {
         return None;
     }

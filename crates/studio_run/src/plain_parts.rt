@@ -2,6 +2,7 @@
 ghost use Rattle.std.specs.Prelude.{◌≡◌, ◌≤◌, [], replicate, IfOk};
 ghost use Rattle.weave_book.specs.declared.weaves.Weave.TheVariants.{Plain};
 ghost use Rattle.mill_base.specs.Limits.{IsWithin};
+ghost use Rattle.mill_base.specs.declared.limits.TheConstants.{MAX_COLUMNS};
 ghost use Rattle.harness_ties.specs.Ties.{tie_of};
 ghost use Rattle.casting_out.specs.Castings.{casting_of};
 ghost use Rattle.studio_run.specs.Sessions.{plain_design, plain_session};
@@ -14,15 +15,13 @@ use draft_model::design::Design;
 use harness_ties::fault::TieFault;
 use harness_ties::tie::Tie;
 use mill_base::face::Face;
+use mill_base::limits::DEFAULT_TILE;
 use mill_base::listed::Listed;
 use mill_base::memory::OutOfMemory;
 use point_paper::paper::Paper;
 use std::alloc::Global;
 use weave_book::book::Book;
 use weave_book::weaves::Weave;
-
-/// The side of a design's tiles.
-const TILE: u32 = 32;
 
 fn plain_book(alloc: Global, colours: u32) -> Result<Book, OutOfMemory>
     requires few { colours ≤ 4 }
@@ -35,9 +34,9 @@ fn plain_book(alloc: Global, colours: u32) -> Result<Book, OutOfMemory>
     Ok(book)
 }
 
-// No other fault than want of memory can come.
+// Memory can be refused; no other fault can come.
 fn straight_tie(alloc: Global, columns: u32) -> Result<Tie, OutOfMemory>
-    requires columns { IsWithin 1 columns 4096 }
+    requires columns { IsWithin 1 columns MAX_COLUMNS }
     ensures { IfOk result (λ tie. tie ≡ record { columns = columns; ends = tie_of [] columns }) }
 {
     harness_ties::laws::no_section_is_the_straight_tie();
@@ -50,7 +49,7 @@ fn straight_tie(alloc: Global, columns: u32) -> Result<Tie, OutOfMemory>
     }
 }
 
-// One hook for each column; no other fault than want of memory can come.
+// One hook for each column. Memory can be refused; no other fault can come.
 fn full_casting(alloc: Global, columns: u32) -> Result<Casting, OutOfMemory>
     ensures { IfOk result (λ casting. casting ≡ casting_of columns [] columns) }
 {
@@ -67,7 +66,7 @@ fn full_casting(alloc: Global, columns: u32) -> Result<Casting, OutOfMemory>
 // The design of plain colours.
 fn make_design(alloc: Global, colours: u32, form: &DesignForm) -> Result<Design, OutOfMemory>
     requires few { colours ≤ 4 }
-    requires columns { IsWithin 1 form.now.size.columns 4096 }
+    requires columns { IsWithin 1 form.now.size.columns MAX_COLUMNS }
     ensures { IfOk result (λ design. design ≡ plain_design colours form.now) }
 {
     let columns = form.size.columns;
@@ -82,7 +81,7 @@ fn make_design(alloc: Global, colours: u32, form: &DesignForm) -> Result<Design,
         weft_back: form.weft,
         warp_face: form.warp,
         warp_back: form.warp,
-        tile: TILE,
+        tile: DEFAULT_TILE,
     })
 }
 
@@ -96,7 +95,7 @@ pub(crate) fn make_session(
     plan: ShiftPlan,
 ) -> Result<Session, OutOfMemory>
     requires few { colours ≤ 4 }
-    requires columns { IsWithin 1 form.now.size.columns 4096 }
+    requires columns { IsWithin 1 form.now.size.columns MAX_COLUMNS }
     ensures { IfOk result (λ session. session ≡ plain_session shown colours form.now plan) }
 {
     let design = make_design(alloc, colours, form)?;

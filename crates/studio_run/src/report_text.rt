@@ -2,14 +2,13 @@
 ghost use Rattle.std.specs.Prelude.{◌≡◌, ◌++◌, ◌<◌, slice_index_or, IfOk, OnOk};
 ghost use Rattle.std.specs.Fmt.{decimal};
 ghost use Rattle.hex.specs.Hex.{encode_lower};
+ghost use Rattle.draft_model.specs.Texts.{float_text, kind_word};
 ghost use Rattle.studio_run.specs.Faults.{status_of};
 ghost use Rattle.studio_run.specs.Logs.{is_accepted as is_accepted_reply};
 ghost use Rattle.studio_run.specs.Reports.{
   numbered,
   size_text,
   design_line,
-  kind_word,
-  float_text,
   reply_text,
   act_in_shift,
   act_lines,

@@ -96,9 +96,7 @@ fn read_show(value: Option<&Value>) -> Option<bool>
     let Some(value) = value else {
         return Some(false);
     };
-    let Some(word) = value.as_str() else {
-        return None;
-    };
+    let word = value.as_str()?;
     show_of(word)
 }
 
@@ -163,9 +161,7 @@ fn read_colours(table: &Table) -> Option<u32>
     ensures colours { result ≡ colours_at (table_view table.now) }
     ensures few { IfSome result (λ colours. IsWithin 1 colours 4) }
 {
-    let Some(items) = items_under(table, "colour") else {
-        return None;
-    };
+    let items = items_under(table, "colour")?;
     count_colours(items)
 }
 
@@ -173,9 +169,7 @@ fn read_colours(table: &Table) -> Option<u32>
 fn design_table(table: &Table) -> Option<&Table>
     ensures { option_map (λ design. table_view design.now) result ≡ design_table_of (table_view table.now) }
 {
-    let Some(design) = value_under(table, "design") else {
-        return None;
-    };
+    let design = value_under(table, "design")?;
     table_in(
         design,
         &["columns", "picks", "weft_limit", "warp_limit", "opening"],
@@ -186,12 +180,8 @@ fn design_table(table: &Table) -> Option<&Table>
 fn shift_table(table: &Table) -> Option<&Table>
     ensures { option_map (λ shift. table_view shift.now) result ≡ shift_table_of (table_view table.now) }
 {
-    let Some(shifts) = items_under(table, "shift") else {
-        return None;
-    };
-    let Some(shift) = single(shifts) else {
-        return None;
-    };
+    let shifts = items_under(table, "shift")?;
+    let shift = single(shifts)?;
     table_in(shift, &["repeats", "acts"])
 }
 
@@ -200,21 +190,11 @@ fn read_design(colours: u32, table: &Table) -> Option<DesignForm>
     requires few { IsWithin 1 colours 4 }
     ensures { result ≡ design_of colours (table_view table.now) }
 {
-    let Some(columns) = even_under(table, "columns") else {
-        return None;
-    };
-    let Some(picks) = even_under(table, "picks") else {
-        return None;
-    };
-    let Some(weft) = number_under(table, "weft_limit", 1, 255) else {
-        return None;
-    };
-    let Some(warp) = number_under(table, "warp_limit", 1, 255) else {
-        return None;
-    };
-    let Some(opening) = number_under(table, "opening", 0, colours - 1) else {
-        return None;
-    };
+    let columns = even_under(table, "columns")?;
+    let picks = even_under(table, "picks")?;
+    let weft = number_under(table, "weft_limit", 1, 255)?;
+    let warp = number_under(table, "warp_limit", 1, 255)?;
+    let opening = number_under(table, "opening", 0, colours - 1)?;
     Some(DesignForm {
         size: Size { columns, picks },
         weft,
@@ -244,15 +224,9 @@ fn read_dot(colours: u32, size: Size, colour: &[u8], column: &[u8], pick: &[u8])
     requires few { colours ≤ 4 }
     ensures { result ≡ dot_of_words colours size colour.now column.now pick.now }
 {
-    let Some(colour) = number(colour) else {
-        return None;
-    };
-    let Some(column) = number(column) else {
-        return None;
-    };
-    let Some(pick) = number(pick) else {
-        return None;
-    };
+    let colour = number(colour)?;
+    let column = number(column)?;
+    let pick = number(pick)?;
     make_dot(colours, size, colour, column, pick)
 }
 
@@ -269,18 +243,12 @@ fn read_act(colours: u32, size: Size, mut words: Words<'_>) -> Option<Act>
     requires few { colours ≤ 4 }
     ensures { result ≡ act_of_words colours size words.entry }
 {
-    let Some(verb) = words.next() else {
-        return None;
-    };
+    let verb = words.next()?;
     let Some(colour) = words.next() else {
         return read_commit(verb);
     };
-    let Some(column) = words.next() else {
-        return None;
-    };
-    let Some(pick) = words.next() else {
-        return None;
-    };
+    let column = words.next()?;
+    let pick = words.next()?;
     if words.next().is_some() || verb != b"dot".as_slice() {
         return None;
     }
@@ -292,9 +260,7 @@ fn act_of_value(colours: u32, size: Size, value: &Value) -> Option<Act>
     requires few { colours ≤ 4 }
     ensures { result ≡ act_in colours size (view value.now) }
 {
-    let Some(text) = value.as_str() else {
-        return None;
-    };
+    let text = value.as_str()?;
     read_act(colours, size, Words::of(text))
 }
 
@@ -370,12 +336,8 @@ fn read_painters(
 fn read_repeats(table: &Table) -> Option<u32>
     ensures { result ≡ repeats_of (table_view table.now) }
 {
-    let Some(items) = items_under(table, "repeats") else {
-        return None;
-    };
-    let Some(item) = single(items) else {
-        return None;
-    };
+    let items = items_under(table, "repeats")?;
+    let item = single(items)?;
     number_of_value(item, 0, 16)
 }
 

@@ -4,6 +4,7 @@ ghost use Rattle.draft_model.specs.Designs.{IsPaperOf};
 ghost use Rattle.studio_run.specs.Plans.{FitsSession, RunsAlone, IsActOf, acts_of_painter};
 ghost use Rattle.studio_run.specs.Journals.{History, IsDesk, history, step};
 ghost use Rattle.studio_run.specs.Logs.{Legal, entries_from};
+ghost use Rattle.mill_base.specs.declared.limits.TheConstants.{MAX_ACTS};
 
 use crate::loom_threads::weave_repeats;
 use crate::session_file::{Session, ShiftPlan};
@@ -61,7 +62,7 @@ fn do_acts(
     acts: &[Act],
 ) -> Result<Listed<Entry>, OutOfMemory>
     requires acts { All (IsActOf design.now) acts.now }
-    requires few { length acts.now ≤ 65536 }
+    requires few { length acts.now ≤ MAX_ACTS }
     requires paper { IsPaperOf design.now desk.old.paper }
     requires opening { (desk.old.newest ≡ desk.old.paper) × (desk.old.version ≡ 0) }
     ensures entries { IfOk result (λ entries. entries ≡ entries_from 1 (history desk.old.paper acts.now).replies) }
@@ -83,7 +84,7 @@ fn do_acts(
 
 fn do_act(design: &Design, desk: &mut Desk, act: &Act) -> Result<Reply, OutOfMemory>
     requires act { IsActOf design.now act.now }
-    requires room { desk.old.version < 65536 }
+    requires room { desk.old.version < MAX_ACTS }
     requires paper { IsPaperOf design.now desk.old.paper }
     requires newest { IsPaperOf design.now desk.old.newest }
     ensures reply { IfOk result (λ reply. (h : History) → IsDesk h desk.old.paper desk.old.newest desk.old.version
