@@ -14,8 +14,8 @@ use std::simd::prelude::*;
 
 const COLOURS: usize = MAX_COLOURS as usize;
 
-/// The marks of a pick by colour. Those of a colour that was met are kept: the first 64 in a word, and after how many columns
-/// they come again.
+/// The marks of a pick by colour. Those of a colour that was met are kept: the first 64 in a word, and after how many
+/// columns they come again.
 #[derive(Drop)]
 pub(crate) struct ColourMarks<'a> {
     weaves: &'a [Weave],
@@ -42,14 +42,15 @@ impl<'a> ColourMarks<'a> {
         }
     }
 
-    /// The marks of the cells at the 64 columns from 64 * `at` on, by the colours of a whole line: bit j is that of column
-    /// 64 * `at` + j, where the line has it.
+    /// The marks of the cells at the 64 columns from 64 * `at` on, by the colours of a whole line: bit j is that of
+    /// column 64 * `at` + j, where the line has it.
     pub(crate) fn line_word(&mut self, colours: &[u8], at: u32) -> u64
         requires there { 64 * at < length colours.now }
         requires colours { All (λ colour. colour < length self.old.weaves.now) colours.now }
         requires room { 64 * at + 64 ≤ 2 ^ 32 }
         ensures same { IsOf self.old.weaves.now self.old.pick self.new }
-        ensures marks { (k : ℕ) → k / 64 ≡ at → k < length colours.now → (bit_at result (k % 64) == 1) ≡ colour_mark self.old.weaves.now (slice_index colours.now k) k self.old.pick }
+        ensures marks { (k : ℕ) → k / 64 ≡ at → k < length colours.now
+            → (bit_at result (k % 64) == 1) ≡ colour_mark self.old.weaves.now (slice_index colours.now k) k self.old.pick }
     {
         let from = 64 * at as usize;
         if from + 64 <= colours.len() {
@@ -64,7 +65,8 @@ impl<'a> ColourMarks<'a> {
         requires colours { All (λ colour. colour < length self.old.weaves.now) cells.now }
         requires room { 64 * at + 64 ≤ 2 ^ 32 }
         ensures same { IsOf self.old.weaves.now self.old.pick self.new }
-        ensures marks { (j : ℕ) → j < 64 → (bit_at result j == 1) ≡ colour_mark self.old.weaves.now (slice_index cells.now j) (64 * at + j) self.old.pick }
+        ensures marks { (j : ℕ) → j < 64
+            → (bit_at result j == 1) ≡ colour_mark self.old.weaves.now (slice_index cells.now j) (64 * at + j) self.old.pick }
     {
         let mut marks = 0;
         let mut left = u64::MAX;

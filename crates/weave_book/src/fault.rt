@@ -12,7 +12,8 @@ use std::fmt;
 pub enum WeaveFault {
     /// The text has none of the forms of a weave.
     Unknown,
-    /// The repeat of a twill or a satin, the length of a row or the number of rows is over [`MAX_WEAVE`](mill_base::limits::MAX_WEAVE).
+    /// The repeat of a twill or a satin, the length of a row or the number of rows is over
+    /// [`MAX_WEAVE`](mill_base::limits::MAX_WEAVE).
     TooWide,
     /// A twill without marked or without unmarked cells.
     TwillZero,

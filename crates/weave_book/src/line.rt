@@ -46,8 +46,8 @@ impl Weave {
         spread(self.some_marks(pick, from, repeat), repeat)
     }
 
-    /// After how many columns the marks of a pick come again, where these are at most 64, and else 0. No text spells a weave
-    /// of more.
+    /// After how many columns the marks of a pick come again, where these are at most the 64 of a word, and else 0. No
+    /// text spells a weave of more.
     pub(crate) fn repeat(&self) -> u32
         ensures few { result ≤ 64 }
         ensures again { (p : ℕ) → Repeats (λ c. mark self.now c p) result }
@@ -89,7 +89,8 @@ fn spread(word: u64, count: u32) -> u64
     requires some { 0 < count }
     requires few { count ≤ 64 }
     requires past { (j : ℕ) → count ≤ j → j < 64 → bit_at word j ≡ 0 }
-    ensures { (line : ℕ → Bool) (from : ℕ) → Repeats line count → AreCells line from count word → AreCells line from 64 result }
+    ensures { (line : ℕ → Bool) (from : ℕ) → Repeats line count → AreCells line from count word
+        → AreCells line from 64 result }
 {
     let mut spread = word;
     let mut filled = count;
