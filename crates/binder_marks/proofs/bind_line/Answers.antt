@@ -1,5 +1,5 @@
 use Rattle.std.proofs.Common.{◌≡◌, ◌≢◌, ◌/◌, ◌<◌, ℕ, false, length, ◌∙◌, ⊎_elim, sym, subst, arith}
-use Rattle.std.proofs.lemmas.List.FromFn.{fill_by_all}
+use Rattle.mill_base.proofs.lemmas.Lines.{line_is}
 use Rattle.std.proofs.lemmas.Bool.{cases_eq}
 use Rattle.binder_marks.specs.Bound.{bound_at, bound_line}
 use Rattle.binder_marks.proofs.Cells.{cell_of_words}
@@ -21,5 +21,5 @@ loop-at-preserved c = record {
 pub returns-clause-line : goal.returns-clause-line
 unfolding bound_line
 returns-clause-line c =
-    fill_by_all (bound_at c.args.raw.now c.args.long.now c.args.raise.now c.args.sink.now) c.loop-at.out (length c.args.raw.now) false c.loop-at.invariant.long
+    line_is false c.loop-at.out (length c.args.raw.now) (bound_at c.args.raw.now c.args.long.now c.args.raise.now c.args.sink.now) c.loop-at.invariant.long
     (λ k h. c.loop-at.invariant.bound k (let l = c.len.ensures in let w = c.div_ceil-words.ensures in omega (arith, l, w, c.loop-at-test.false)) h)
