@@ -1,8 +1,9 @@
 //! Lines that are bound, against cells worked out by hand.
-ghost use Rattle.std.specs.Prelude.{◌≡◌, length, IfOk};
+ghost use Rattle.std.specs.Prelude.{◌≡◌, ◌<◌, length, IfOk};
 
 use crate::bind_line;
 use mill_base::bit_row::BitRow;
+use mill_base::limits::MAX_ENDS;
 use mill_base::memory::OutOfMemory;
 use std::alloc::Global;
 use std::test::Fail;
@@ -35,6 +36,29 @@ fn binds(alloc: Global, len: u32, line: Line<'_>, bound: &[u64]) -> Result<bool,
     out.fill(true);
     bind_line(&raw, &long, &raise, &sink, &mut out);
     Ok(out.words() == bound)
+}
+
+/// The first lifted cell of a line that was bound, where no cell was lifted, the last alone was long, and every cell has
+/// the mark that raises.
+fn first_raised(alloc: Global, len: u32) -> Result<Option<u32>, OutOfMemory>
+    requires { 0 < len }
+{
+    let raw = row_of(alloc, len, &[])?;
+    let mut long = row_of(alloc, len, &[])?;
+    let mut raise = row_of(alloc, len, &[])?;
+    let sink = row_of(alloc, len, &[])?;
+    let mut out = row_of(alloc, len, &[])?;
+    long.set(len - 1, true);
+    raise.fill(true);
+    out.fill(true);
+    bind_line(&raw, &long, &raise, &sink, &mut out);
+    Ok(out.next_true(0))
+}
+
+#[test]
+fn a_line_of_as_many_ends_as_there_may_be_is_bound(rt: HostRuntime) -> Result<(), Fail> {
+    assert_eq!(rt; first_raised(rt.alloc(), MAX_ENDS)?, Some(MAX_ENDS - 1));
+    Ok(())
 }
 
 #[test]
