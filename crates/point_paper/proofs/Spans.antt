@@ -6,7 +6,7 @@ use Rattle.std.proofs.lemmas.Bool.Decides.{nat_tests}
 use Rattle.std.proofs.lemmas.List.{get_or_append_left, get_or-append_right, get_or-take, get_or-drop, get_or-replicate, length-replicate}
 use Rattle.point_paper.specs.declared.paper.Span.{Span}
 use Rattle.point_paper.specs.Papers.{PaperCells, IsPaper, cell_of, covers, after_span, paper_by}
-use Rattle.point_paper.proofs.Cells.{paper_is}
+use Rattle.point_paper.proofs.lemmas.Cells.{paper_is}
 
 pub after_span-inside : (paper : PaperCells) (span : Span) (column pick : ℕ) → pick ≡ span.pick → span.column ≤ column → column < span.column + span.length → after_span paper span column pick ≡ span.colour
 after_span-inside paper span column pick same from to = cond-true (covers span column pick) span.colour (cell_of paper column pick) (grind (arith, nat_tests))

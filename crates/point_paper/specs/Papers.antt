@@ -24,7 +24,8 @@ IsPaper paper = length paper.colours ≡ paper.picks * paper.columns
 pub record HaveSameCells (one other : PaperCells) : Type 0 where
   pub columns : one.columns ≡ other.columns
   pub picks : one.picks ≡ other.picks
-  pub cells : (column pick : ℕ) → column < one.columns → pick < one.picks → cell_of one column pick ≡ cell_of other column pick
+  pub cells : (column pick : ℕ) → column < one.columns → pick < one.picks
+      → cell_of one column pick ≡ cell_of other column pick
 
 -- the colour numbers of a whole pick, from column 0 on
 abbrev pub pick_of : PaperCells → ℕ → List ℕ
@@ -64,7 +65,8 @@ image_cell columns picks pixels column pick = slice_index pixels ((picks - 1 - p
 abbrev pub covers : Span → ℕ → ℕ → Bool
 covers span column pick = pick == span.pick && nat_le span.column column && nat_lt column (span.column + span.length)
 
--- the colour number in a column of a pick once the span is painted: the span's where the span has the cell, else as before
+-- the colour number in a column of a pick once the span is painted: the span's where the span has the cell, else as
+-- before
 abbrev pub after_span : PaperCells → Span → ℕ → ℕ → ℕ
 after_span paper span column pick = if covers span column pick then span.colour else cell_of paper column pick
 
@@ -84,3 +86,10 @@ bit_cell bits column pick = slice_index_or (bit_row bits pick) column false
 -- each row has a truth value for each column
 abbrev pub IsBitPaper : BitCells → Type 0
 IsBitPaper bits = (pick : ℕ) → pick < length bits.rows → length (bit_row bits pick) ≡ bits.columns
+
+-- two papers of truth values have one size, and the same truth value in each column of each pick
+pub record HaveSameBits (one other : BitCells) : Type 0 where
+  pub columns : one.columns ≡ other.columns
+  pub picks : length one.rows ≡ length other.rows
+  pub cells : (column pick : ℕ) → column < one.columns → pick < length one.rows
+      → bit_cell one column pick ≡ bit_cell other column pick

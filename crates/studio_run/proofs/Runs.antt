@@ -9,7 +9,7 @@ use Rattle.std.specs.List.{concat}
 use Rattle.mill_base.specs.Bits.{packed}
 use Rattle.point_paper.specs.declared.paper.Span.{Span}
 use Rattle.point_paper.specs.Papers.{PaperCells, cell_of, paper_by, covers, after_span}
-use Rattle.point_paper.proofs.Cells.{paper_is, IsPaper-paper_by, cell_of-paper_by}
+use Rattle.point_paper.proofs.lemmas.Cells.{paper_is, IsPaper-paper_by, cell_of-paper_by}
 use Rattle.draft_model.specs.declared.design.Design.{Design}
 use Rattle.draft_model.specs.Designs.{IsPaperOf}
 use Rattle.studio_run.specs.declared.strokes.Act.{Act}

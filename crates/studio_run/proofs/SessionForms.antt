@@ -15,7 +15,7 @@ use Rattle.mill_io.specs.Files.{File}
 use Rattle.mill_io.specs.Reads.{Holds}
 use Rattle.weave_book.specs.declared.weaves.Weave.TheVariants.{Plain}
 use Rattle.point_paper.specs.Papers.{paper_by}
-use Rattle.point_paper.proofs.Cells.{cell_of-paper_by}
+use Rattle.point_paper.proofs.lemmas.Cells.{cell_of-paper_by}
 use Rattle.draft_model.specs.Designs.{Fits, IsPaperOf}
 use Rattle.mill_base.specs.Limits.{IsWithin}
 use Rattle.studio_run.specs.declared.strokes.Act.{Act}

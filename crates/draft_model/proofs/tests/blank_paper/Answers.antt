@@ -1,6 +1,6 @@
 use Rattle.std.proofs.Common.{◌≡◌, ◌<◌, sym, subst}
 use Rattle.point_paper.specs.Papers.{PaperCells, cell_of}
-use Rattle.point_paper.proofs.Cells.{cell_of-paper_by}
+use Rattle.point_paper.proofs.lemmas.Cells.{cell_of-paper_by}
 use Rattle.draft_model.proofs.tests.blank_paper.Goals as goal
 
 pub returns-clause-colours : goal.returns-clause-colours

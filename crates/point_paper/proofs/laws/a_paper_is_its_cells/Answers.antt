@@ -1,4 +1,4 @@
-use Rattle.point_paper.proofs.Cells.{same_papers}
+use Rattle.point_paper.proofs.lemmas.Cells.{same_papers}
 use Rattle.point_paper.proofs.laws.a_paper_is_its_cells.Goals as goal
 
 pub returns : goal.returns

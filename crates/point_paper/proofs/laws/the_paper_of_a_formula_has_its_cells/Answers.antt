@@ -1,4 +1,4 @@
-use Rattle.point_paper.proofs.Cells.{IsPaper-paper_by, cell_of-paper_by}
+use Rattle.point_paper.proofs.lemmas.Cells.{IsPaper-paper_by, cell_of-paper_by}
 use Rattle.point_paper.proofs.laws.the_paper_of_a_formula_has_its_cells.Goals as goal
 
 pub returns : goal.returns

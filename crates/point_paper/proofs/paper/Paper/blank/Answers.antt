@@ -1,5 +1,5 @@
 use Rattle.std.proofs.Common.{ap, ◌∙◌, List, ℕ}
-use Rattle.point_paper.proofs.Cells.{colours_of_one}
+use Rattle.point_paper.proofs.lemmas.Cells.{colours_of_one}
 use Rattle.point_paper.proofs.paper.Paper.blank.Goals as goal
 
 pub returns : goal.returns

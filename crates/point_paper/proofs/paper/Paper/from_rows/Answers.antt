@@ -1,7 +1,7 @@
 use Rattle.std.proofs.Common.{◌≡◌, ◌+◌, ◌*◌, ◌++◌, ap, sym, ◌∙◌, refl, length, arith}
 use Rattle.std.proofs.lemmas.Slice.{pushed}
 use Rattle.point_paper.specs.Papers.{colours_by, image_cell}
-use Rattle.point_paper.proofs.Cells.{image_row, colours_more, length-colours_by}
+use Rattle.point_paper.proofs.lemmas.Cells.{image_row, colours_more, length-colours_by}
 use Rattle.point_paper.proofs.paper.Paper.from_rows.Goals as goal
 
 pub loop-pick-init : goal.loop-pick-init

@@ -1,5 +1,5 @@
 use Rattle.std.proofs.Common.{◌+◌, ◌*◌, ℕ, List, get_or, length, ap, ◌∙◌, arith}
-use Rattle.point_paper.proofs.Cells.{pick_read, column_read}
+use Rattle.point_paper.proofs.lemmas.Cells.{pick_read, column_read}
 use Rattle.point_paper.proofs.paper.Paper.line.Goals as goal
 
 pub returns-in-Pick-clause-cells : goal.returns-in-Pick-clause-cells
