@@ -27,7 +27,8 @@ impl Model for BitPaper {
 impl BitPaper {
     /// A paper that is false everywhere.
     pub fn new(alloc: Global, size: Size) -> Result<BitPaper, OutOfMemory>
-        ensures { IfOk result (λ b. b ≡ record { columns = size.columns; rows = replicate size.picks (replicate size.columns false) }) }
+        ensures { IfOk result
+            (λ b. b ≡ record { columns = size.columns; rows = replicate size.picks (replicate size.columns false) }) }
     {
         let grid = BitGrid::new(alloc, size.columns, size.picks)?;
         Ok(BitPaper { grid })
@@ -74,7 +75,8 @@ impl BitPaper {
     pub fn set(&mut self, column: u32, pick: u32, value: bool)
         requires column { column < self.old.columns }
         requires pick { pick < length self.old.rows }
-        ensures { self.new ≡ record self.old { rows = slice_set self.old.rows pick (slice_set (bit_row self.old pick) column value) } }
+        ensures { self.new
+            ≡ record self.old { rows = slice_set self.old.rows pick (slice_set (bit_row self.old pick) column value) } }
     {
         self.grid.set(column, pick, value);
     }

@@ -25,8 +25,8 @@ pub enum LineKind {
     Column,
 }
 
-/// A point paper (the term is Watson's and Grosicki's) of C columns and P picks, a byte for each cell, which contracts see as its
-/// cells. They are read by `cell` and `line` alone, and each reading is counted.
+/// A point paper (the term is Watson's and Grosicki's) of C columns and P picks, a byte for each cell, which contracts
+/// see as its cells. They are read by `cell` and `line` alone, and each reading is counted.
 #[derive(Drop)]
 pub struct Paper {
     size: Size,
@@ -54,11 +54,12 @@ impl Paper {
         Ok(Paper { size, colours })
     }
 
-    /// The paper of an image with one pixel for each cell, row by row from the top. The image's top row is the paper's highest pick,
-    /// by a rule of this project's own.
+    /// The paper of an image with one pixel for each cell, row by row from the top. The image's top row is the paper's
+    /// highest pick, by a rule of this project's own.
     pub fn from_rows(alloc: Global, size: Size, pixels: &[u8]) -> Result<Paper, OutOfMemory>
         requires { length pixels.now ≡ size.picks * size.columns }
-        ensures { IfOk result (λ p. p ≡ paper_by size.columns size.picks (image_cell size.columns size.picks pixels.now)) }
+        ensures { IfOk result
+            (λ p. p ≡ paper_by size.columns size.picks (image_cell size.columns size.picks pixels.now)) }
     {
         let columns = size.columns as usize;
         let picks = size.picks as usize;
@@ -139,7 +140,8 @@ fn copy_pick(colours: &[u8], at: usize, out: &mut [u8])
 fn copy_column(colours: &[u8], columns: usize, column: usize, out: &mut [u8])
     requires column { column < columns }
     requires picks { length out.old * columns ≤ length colours.now }
-    ensures { (pick : ℕ) → pick < length out.old → slice_index out.new pick ≡ slice_index colours.now (pick * columns + column) }
+    ensures { (pick : ℕ) → pick < length out.old
+        → slice_index out.new pick ≡ slice_index colours.now (pick * columns + column) }
 {
     for (pick, cell) in out.iter_mut().enumerate() {
         *cell = colours[pick * columns + column];
@@ -148,7 +150,8 @@ fn copy_column(colours: &[u8], columns: usize, column: usize, out: &mut [u8])
 
 fn fill_part(colours: &mut Vec<u8>, at: usize, count: usize, colour: u8)
     requires { at + count ≤ length colours.old.items }
-    ensures { colours.new.items ≡ take at colours.old.items ++ (replicate count colour ++ drop (at + count) colours.old.items) }
+    ensures { colours.new.items
+        ≡ take at colours.old.items ++ (replicate count colour ++ drop (at + count) colours.old.items) }
 {
     colours[at..at + count].fill(colour);
 }

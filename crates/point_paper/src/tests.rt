@@ -1,10 +1,12 @@
-//! Papers by example: which image row is which pick, what a span paints, how often readings tick, and the largest papers.
+//! Papers by example: which image row is which pick, what a span paints, how often readings tick, and the largest
+//! papers.
 ghost use Rattle.std.specs.Prelude.{◌≡◌, ◌+◌, ◌<◌};
 ghost use Rattle.point_paper.specs.Papers.{lines_of};
 
 use crate::bit_paper::BitPaper;
 use crate::paper::{LineKind, Paper, Span};
 use mill_base::bit_row::BitRow;
+use mill_base::limits::{MAX_COLUMNS, MAX_PICKS};
 use mill_base::memory::OutOfMemory;
 use mill_base::size::Size;
 use mill_base::steps::Steps;
@@ -196,11 +198,11 @@ fn mixed_readings_tick_once_for_each_cell(rt: HostRuntime) -> Result<(), Fail> {
 
 /// How many cells of the largest paper's top pick and right column have the colours 1, 2 and 3.
 fn largest(alloc: Global) -> Result<[usize; 5], OutOfMemory> {
-    let mut paper = Paper::blank(alloc, size_of(4096, 8192), 1)?;
-    paper.paint_span(&span(4095, 8191, 1, 2));
-    paper.paint_span(&span(0, 4096, 4096, 3));
-    let top = line(alloc, &paper, LineKind::Pick, 8191)?;
-    let right = line(alloc, &paper, LineKind::Column, 4095)?;
+    let mut paper = Paper::blank(alloc, size_of(MAX_COLUMNS, MAX_PICKS), 1)?;
+    paper.paint_span(&span(MAX_COLUMNS - 1, MAX_PICKS - 1, 1, 2));
+    paper.paint_span(&span(0, 4096, MAX_COLUMNS, 3));
+    let top = line(alloc, &paper, LineKind::Pick, MAX_PICKS - 1)?;
+    let right = line(alloc, &paper, LineKind::Column, MAX_COLUMNS - 1)?;
     Ok([
         count(&top, 1),
         count(&top, 2),
@@ -214,6 +216,32 @@ fn largest(alloc: Global) -> Result<[usize; 5], OutOfMemory> {
 fn the_largest_paper_is_made_painted_and_read(rt: HostRuntime) -> Result<(), Fail> {
     let counts = largest(rt.alloc())?;
     assert!(rt; counts == [4095, 1, 8190, 1, 1]);
+    Ok(())
+}
+
+/// How many rows have a true cell: of a paper whose last cell of the highest pick was set, and of the same paper once its
+/// lowest row was filled too.
+fn rows_with_a_cell(alloc: Global, size: Size) -> Result<[usize; 2], OutOfMemory>
+    requires columns { 0 < size.columns }
+    requires picks { 0 < size.picks }
+{
+    let mut bits = BitPaper::new(alloc, size)?;
+    bits.set(size.columns - 1, size.picks - 1, true);
+    let copy = bits.copy()?;
+    let mut row = BitRow::new(alloc, size.columns)?;
+    row.fill(true);
+    bits.set_row(0, &row);
+    Ok([filled(copy.rows()), filled(bits.rows())])
+}
+
+fn filled(rows: &[BitRow]) -> usize {
+    rows.iter().filter(|row| row.any()).count()
+}
+
+#[test]
+fn the_largest_bit_paper_is_made_set_and_copied(rt: HostRuntime) -> Result<(), Fail> {
+    let filled = rows_with_a_cell(rt.alloc(), size_of(MAX_COLUMNS, MAX_PICKS))?;
+    assert_eq!(rt; filled, [1, 2]);
     Ok(())
 }
 
