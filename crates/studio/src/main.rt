@@ -31,7 +31,7 @@ fn main(rt: HostRuntime) -> ExitCode {
     ExitCode::from(answer.status)
 }
 
-// The arguments without the program's name. Arguments that cannot be had whole, as one that is no text, are no command.
+// The arguments without the program's name. Arguments that cannot be had whole, as one that is no text, are an unknown command.
 fn words<R: Env + Alloc<A = Global>>(rt: &R) -> io::Result<Vec<String>> {
     let mut words = Vec::new(rt.alloc());
     for word in env::args(rt)?.skip(1) {

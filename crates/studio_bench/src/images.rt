@@ -21,6 +21,7 @@ pub enum Pixels {
 }
 
 impl Pixels {
+    /// The pixels of a name.
     pub fn named(name: &str) -> Option<Pixels> {
         match name {
             "byte" => Some(Pixels::Byte),
@@ -49,6 +50,7 @@ pub struct Stored {
 }
 
 impl Stored {
+    /// A random image and its file; `None` where memory is refused.
     pub fn new(alloc: Global, pixels: Pixels) -> Option<Stored> {
         let image = random_image(alloc, pixels.row_bytes()).ok()?;
         if !image.is_writable() {
@@ -63,6 +65,7 @@ impl Stored {
         Some(Stored { image, file })
     }
 
+    /// Reads the file so many times.
     pub fn read(&self, alloc: Global, rounds: u32) -> Option<u32> {
         let mut told = 0u32;
         for _ in 0..rounds {
@@ -72,6 +75,7 @@ impl Stored {
         Some(told)
     }
 
+    /// Writes the image so many times.
     pub fn write(&self, alloc: Global, rounds: u32) -> Option<u32> {
         let mut told = 0u32;
         for _ in 0..rounds {

@@ -19,6 +19,7 @@ pub struct FloatLine {
 }
 
 impl FloatLine {
+    /// A line of so many cells; `None` where there are none or memory is refused.
     pub fn new(alloc: Global, len: u32) -> Option<FloatLine> {
         if len == 0 {
             return None;
@@ -28,6 +29,7 @@ impl FloatLine {
         Some(FloatLine { line, long })
     }
 
+    /// Finds the long cells so many times.
     pub fn long_cells(&mut self, rounds: u32) -> u32 {
         for _ in 0..rounds {
             long_cells(&self.line, LIMIT, LIMIT, &mut self.long);

@@ -20,6 +20,7 @@ pub struct Marks {
 }
 
 impl Marks {
+    /// A pick of random colours; `None` where memory is refused.
     pub fn new(alloc: Global) -> Option<Marks> {
         let book = eight_weaves(alloc).ok()?;
         let colours = random::bytes(alloc, MAX_COLUMNS, 8).ok()?;
@@ -27,6 +28,7 @@ impl Marks {
         Some(Marks { book, colours, row })
     }
 
+    /// Puts the marks of so many picks, a whole row at a time.
     pub fn raw(&mut self, rounds: u32) -> u32 {
         for pick in 0..rounds {
             self.book.put_raw(&self.colours, pick, &mut self.row);
@@ -34,6 +36,7 @@ impl Marks {
         self.row.count()
     }
 
+    /// The same cell by cell.
     pub fn raw_by_cell(&mut self, rounds: u32) -> u32 {
         for pick in 0..rounds {
             raw_by_cell(&self.book, &self.colours, pick, &mut self.row);

@@ -12,12 +12,14 @@ pub struct Random {
 }
 
 impl Random {
+    /// The generator at its first number.
     pub fn new() -> Random {
         Random {
             state: 88_172_645_463_325_252,
         }
     }
 
+    /// The next number.
     pub fn next(&mut self) -> u64 {
         let mut x = self.state;
         x ^= x << 13;

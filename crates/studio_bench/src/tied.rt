@@ -21,6 +21,7 @@ pub enum Form {
 }
 
 impl Form {
+    /// The form of a name.
     pub fn named(name: &str) -> Option<Form> {
         match name {
             "straight" => Some(Form::Straight),
@@ -72,6 +73,7 @@ pub struct Tied {
 }
 
 impl Tied {
+    /// Random rows of the columns and the ends; `None` where memory is refused.
     pub fn new(alloc: Global, form: Form) -> Option<Tied> {
         let tie = form.tie(alloc)?;
         let columns = random::row(alloc, MAX_COLUMNS).ok()?;
@@ -79,6 +81,7 @@ impl Tied {
         Some(Tied { tie, columns, ends })
     }
 
+    /// Lays the columns on the ends so many times.
     pub fn lay(&mut self, rounds: u32) -> u32 {
         for _ in 0..rounds {
             self.tie.lay(&self.columns, &mut self.ends);
@@ -86,6 +89,7 @@ impl Tied {
         self.ends.count()
     }
 
+    /// The same end by end.
     pub fn lay_by_end(&mut self, rounds: u32) -> u32 {
         for _ in 0..rounds {
             lay_by_end(&self.tie, &self.columns, &mut self.ends);
@@ -93,6 +97,7 @@ impl Tied {
         self.ends.count()
     }
 
+    /// Gathers the ends into the columns so many times.
     pub fn gather(&mut self, rounds: u32) -> u32 {
         for _ in 0..rounds {
             self.tie.gather(&self.ends, &mut self.columns);
@@ -100,6 +105,7 @@ impl Tied {
         self.columns.count()
     }
 
+    /// The same end by end.
     pub fn gather_by_end(&mut self, rounds: u32) -> u32 {
         for _ in 0..rounds {
             gather_by_end(&self.tie, &self.ends, &mut self.columns);

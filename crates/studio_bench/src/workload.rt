@@ -29,6 +29,7 @@ pub enum Workload {
 }
 
 impl Workload {
+    /// The piece of work of a name and a size.
     pub fn named(name: &str, size: &str) -> Option<Workload> {
         match name {
             "lay" => Some(Workload::Lay(Form::named(size)?)),

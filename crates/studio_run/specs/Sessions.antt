@@ -272,14 +272,14 @@ pub record Read (name : List ℕ) (files : Option (List File)) (result : Result 
   pub denoted : SessionOf bytes result
 
 -- what a refusal to read the file of a name says: the first broken rule of the file, a read that failed in this call, whose name the
--- shelf then has as that of the read that failed last, or more bytes than a session file may have; want of memory says nothing
+-- shelf then has as that of the read that failed last, or more bytes than a session file may have; out of memory says nothing
 abbrev pub IsReadRefusal : List ℕ → Option (List File) → Type 0 → List ℕ → SessionRefusal → Type 0
 IsReadRefusal name files rose failed (Fault fault) = Read name files (Err fault)
 IsReadRefusal name files rose failed (ReadFault told) = (told ≡ name) × rose × (failed ≡ told)
 IsReadRefusal name files rose failed (TooLong told) = (told ≡ name) × HoldsMore files told file_limit
 IsReadRefusal name files rose failed OutOfMemory = Unit {0}
 
--- a refusal of the bytes of a file is their first broken rule, or want of memory
+-- a refusal of the bytes of a file is their first broken rule, or out of memory
 abbrev pub IsFileRefusal : List ℕ → SessionRefusal → Type 0
 IsFileRefusal bytes (Fault fault) = SessionOf bytes (Err fault)
 IsFileRefusal bytes (ReadFault told) = ⊥

@@ -47,7 +47,7 @@ use std::alloc::Global;
 pub enum Cause {
     /// All was done.
     Done,
-    /// The words are no command.
+    /// The command is unknown.
     Usage,
     /// The session file breaks a rule.
     Session(SessionFault),

@@ -83,7 +83,7 @@ impl From<OutOfMemory> for SessionRefusal {
 impl Session {
     /// Reads the session file of that name, a TOML document in the form that is built (this project's own). A refusal is the first
     /// broken rule of the file, a read that failed, or that the file has more than `FILE_LIMIT` bytes; each names the file or the
-    /// key. Want of memory for the name itself is told before the shelf is read.
+    /// key. Out of memory for the name itself is told before the shelf is read.
     pub fn read<H: Shelf>(
         alloc: Global,
         shelf: &mut H,

@@ -20,12 +20,14 @@ pub struct Entry {
 }
 
 impl Entry {
+    /// Whether the values are numbers of two bytes.
     pub fn is_short(&self) -> bool
         ensures { result ≡ has_shorts self.now }
     {
         self.kind == SHORT
     }
 
+    /// Whether the values are numbers of two or of four bytes.
     pub fn is_whole(&self) -> bool
         ensures { result ≡ has_numbers self.now }
     {

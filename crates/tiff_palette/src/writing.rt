@@ -25,9 +25,9 @@ use std::alloc::Global;
 pub const STRIP_SIZE: u32 = 8192;
 /// Where the directory stands.
 pub const DIRECTORY: u32 = 8;
-/// Where the two resolutions stand.
+/// Where the resolution along a row stands.
 pub const X_RESOLUTION_VALUE: u32 = 158;
-
+/// Where the resolution along a column stands.
 pub const Y_RESOLUTION_VALUE: u32 = 166;
 /// Where the colour map stands.
 pub const COLOURS: u32 = 174;
