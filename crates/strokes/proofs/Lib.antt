@@ -1,6 +1,8 @@
 pub mod Covers
 pub mod LinePlaces
 pub mod MotifFaults
+pub mod MotifFits
+pub mod Painted
 pub mod Rounds
 pub mod Runs
 pub mod Stamps

@@ -1,5 +1,5 @@
 -- Motifs by their cells. Columns are counted from the left and picks from the bottom, both from 0.
-use Rattle.std.specs.Prelude.{◌≡◌, ℕ, ◌+◌, ◌*◌, ◌≤◌, nat_lt, ◌&&◌, List, [], length, slice_index_or, Option, None, if◌then◌else◌}
+use Rattle.std.specs.Prelude.{◌≡◌, ℕ, ◌+◌, ◌*◌, ◌<◌, ◌≤◌, nat_lt, ◌&&◌, List, [], All, length, slice_index_or, Option, None, IfSome, if◌then◌else◌}
 use Rattle.mill_base.specs.declared.size.Size.{Size}
 
 -- a motif: pick by pick from the lowest, each pick from the left; a cell has a colour number, or nothing where it is not painted
@@ -25,3 +25,7 @@ pub record IsNoLarger (motif : MotifCells) (size : Size) : Type 0 where
 -- the motif without a cell
 abbrev pub no_motif : MotifCells
 no_motif = record { columns = 0; picks = 0; cells = [] }
+
+-- each cell that is painted has one of so many colours
+abbrev pub HasColours : ℕ → MotifCells → Type 0
+HasColours colours motif = All (λ cell. IfSome cell (λ colour. colour < colours)) motif.cells

@@ -4,6 +4,7 @@
 pub mod act;
 mod corners;
 pub mod fault;
+pub mod laws;
 mod line;
 pub mod motif;
 mod motif_rows;
