@@ -1,5 +1,5 @@
 -- What lists of spans cover, and what one span more does.
-use Rattle.std.proofs.Common.{◌≡◌, ℕ, ◌<◌, Bool, true, false, cond, ◌||◌, List, [], ◌∷◌, ◌++◌, ap, sym, subst, refl, ◌∙◌}
+use Rattle.std.proofs.Common.{◌≡◌, ℕ, ◌<◌, Bool, true, false, cond, ◌||◌, List, [], ◌∷◌, ◌++◌, ap, sym, subst, refl, ◌∙◌, arith}
 use Rattle.std.specs.Prelude.{Contains, Option, Some, None, Result, Ok, Err, OnOk}
 use Rattle.std.specs.Option.{option_or}
 use Rattle.std.proofs.lemmas.List.Elements.{All-push}
@@ -97,3 +97,11 @@ added_run size all old new cell span same is inside among =
 pub on_ok : {T E : Type 0} (r : Result T E) (P Q : Type 0) → OnOk r P → (P → Q) → OnOk r Q
 on_ok (Ok x) P Q h f = f h
 on_ok (Err e) P Q h f = h
+
+-- no span, where nothing is to be painted
+pub colour_none : (size : Size) (colour : ℕ) (has : ℕ → ℕ → Bool) → ((c p : ℕ) → has c p ≡ false) → PaintInColour size colour has []
+colour_none size colour has none = record {
+  cells = λ c p. ap (λ b. cond b (Some colour) None) (sym (none c p));
+  inside = λ k d h. absurd (omega (arith, h));
+  colours = λ k d h. absurd (omega (arith, h));
+}

@@ -1,7 +1,7 @@
 -- Where the cells of a line lie, and the stretches of them on one pick.
 use Rattle.std.proofs.Common.{◌≡◌, ◌≢◌, ℕ, ◌+◌, ◌-◌, ◌*◌, ◌/◌, ◌<◌, ◌≤◌, min, max, Bool, true, ◌&&◌, ◌||◌, ap, sym, refl, ◌∙◌, ⊎_elim, arith}
 use Rattle.std.specs.Prelude.{◌==◌, nat_le, nat_lt}
-use Rattle.std.proofs.Math.Nat.{mul_assoc, mul_comm, mul-le-mul_right, div-zero, div-mul-le_self}
+use Rattle.std.proofs.Math.Nat.{mul_assoc, mul_comm, mul-le-mul_right, div-zero, div-eq_of_lt, div-mul-le_self, add-mul-div_left, add-mul}
 use Rattle.std.proofs.lemmas.Nat.{div-mul-add, le-div}
 use Rattle.std.proofs.lemmas.Bool.{cases_eq, cases_lt, cond-true, cond-false, le-leb, lt-leb, or_cases, or_left, or_right, and_parts, and_from, leb-true, ltb-true, eqb-true, eq-eqb, lt-ltb}
 use Rattle.mill_base.specs.Below.{any_below}
@@ -48,6 +48,27 @@ step_rises n d i j h = quotient_rises (2 * i * d + n) (2 * j * d + n) (2 * n) (o
 
 pub step_within : (n d i : ℕ) → d ≤ n → i ≤ n → line_step n d i ≤ d
 step_within n d i short within = omega (arith, step_rises n d i n within, step_last n d short)
+
+-- cell 0 is the first corner
+pub step_first : (n d : ℕ) → line_step n d 0 ≡ 0
+unfolding line_step
+step_first n d = ⊎_elim
+    (λ (none : n ≡ 0). ap (λ m. (2 * 0 * d + n) / (2 * m)) none ∙ div-zero (2 * 0 * d + n))
+    (λ (some : n ≢ 0). div-eq_of_lt {n = 2 * 0 * d + n} {m = 2 * n} (omega arith))
+    (cases_eq n 0)
+
+-- the next cell lies at most one further on
+step_next : (n d i : ℕ) → d ≤ n → line_step n d (i + 1) ≤ line_step n d i + 1
+unfolding line_step
+step_next n d i short = ⊎_elim
+    (λ (none : n ≡ 0). omega (arith, ap (λ m. (2 * (i + 1) * d + n) / (2 * m)) none ∙ div-zero (2 * (i + 1) * d + n)))
+    (λ (some : n ≢ 0).
+    let more : 2 * (i + 1) * d ≡ 2 * i * d + 2 * d = ap (λ m. m * d) (twice_more i) ∙ add-mul (2 * i) 2 d in
+    omega (arith, quotient_rises (2 * (i + 1) * d + n) (2 * i * d + n + 2 * n * 1) (2 * n) (omega (arith, more, short)), add-mul-div_left (2 * i * d + n) 1 {y = 2 * n} (omega arith)))
+    (cases_eq n 0)
+  where
+    twice_more : (k : ℕ) → 2 * (k + 1) ≡ 2 * k + 2
+    twice_more k = omega arith
 
 pub towards_up : (a b k : ℕ) → a ≤ b → towards a b k ≡ a + k
 towards_up a b k up = cond-true (nat_le a b) (a + k) (a - k) (le-leb a b up)
@@ -190,3 +211,29 @@ stretch_covers c0 p0 c1 p1 start end left count pick c p ahead within level left
       (and_from (p == pick) (nat_le left c) (eq-eqb p pick (row ∙ level w.0 behind last ∙ sym pick_is)) (le-leb left c (let h = between.low in omega (arith, column, left_is))))
       (lt-ltb c (left + count) (let h = between.high in omega (arith, column, right_is)))))
       (cases_lt w.0 start)
+
+-- ---- how many stretches there are
+
+same_step : (a b n i j : ℕ) → distance a b ≤ n → i ≤ n → j ≤ n → line_place n a b i ≡ line_place n a b j → line_step n (distance a b) i ≡ line_step n (distance a b) j
+same_step a b n i j short ih jh same =
+    let d = distance a b in
+    let fi = step_within n d i short ih in
+    let fj = step_within n d j short jh in
+    ⊎_elim
+    (λ (down : b < a). omega (arith, towards_down a b (line_step n d i) down, towards_down a b (line_step n d j) down, fi, fj, same, down))
+    (λ (up : a ≤ b). omega (arith, towards_up a b (line_step n d i) up, towards_up a b (line_step n d j) up, same))
+    (cases_lt b a)
+
+-- a stretch that ends before the last cell: the next begins one pick further on
+pub stretch_next : (a b n start end : ℕ) → distance a b ≤ n → start ≤ end → end < n → line_place n a b end ≡ line_place n a b start → line_place n a b (end + 1) ≢ line_place n a b start
+    → line_step n (distance a b) start + 1 ≡ line_step n (distance a b) (end + 1)
+stretch_next a b n start end short ahead within level whole =
+    let d = distance a b in
+    let same : line_step n d end ≡ line_step n d start = same_step a b n end start short (omega (arith, within)) (omega (arith, ahead, within)) level in
+    let apart : line_step n d (end + 1) ≢ line_step n d start = (λ e. whole (ap (towards a b) e)) in
+    omega (arith, same, apart, step_rises n d end (end + 1) (omega arith), step_next n d end short)
+
+-- the last stretch lies on the last pick
+pub stretch_last : (a b n start end : ℕ) → distance a b ≤ n → start ≤ end → end ≡ n → line_place n a b end ≡ line_place n a b start → line_step n (distance a b) start ≡ distance a b
+stretch_last a b n start end short ahead last level =
+    sym (same_step a b n end start short (omega (arith, last)) (omega (arith, ahead, last)) level) ∙ ap (line_step n (distance a b)) last ∙ step_last n (distance a b) short

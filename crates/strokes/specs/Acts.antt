@@ -64,7 +64,8 @@ abbrev pub unless_below : ActFault → ℕ → Option ℕ → List ActFault
 unless_below fault bound (Some n) = if nat_lt n bound then [] else fault ∷ []
 unless_below fault bound None = []
 
--- Rule 1, of the words behind the first: there are as many as the kind has; the fault is the place of the first missing or superfluous word.
+-- Rule 1, of the words behind the first: there are as many as the kind has; the fault is the place of the first missing
+-- or superfluous word.
 abbrev pub count_faults : ℕ → ℕ → List ActFault
 count_faults wanted found = if wanted == found then [] else Word (min wanted found + 1) ∷ []
 
@@ -128,7 +129,8 @@ abbrev pub act_of_text : ℕ → Size → List NamedMotif → List (List ℕ) �
 act_of_text colours size motifs [] = Err (Word 0)
 act_of_text colours size motifs (first ∷ words) = act_of_kind colours size motifs (kind_of first) words
 
--- the act that a text spells, with so many colours, on a paper of the size and with these motifs, or the first rule that it breaks
+-- the act that a text spells, with so many colours, on a paper of the size and with these motifs, or the first rule
+-- that it breaks
 unfoldable pub parsed_act : List ℕ → ℕ → Size → List NamedMotif → Result Act ActFault
 parsed_act text colours size motifs = act_of_text colours size motifs (words_of text)
 

@@ -2,7 +2,8 @@
 use Rattle.std.specs.Prelude.{◌≡◌, ℕ, ◌+◌, ◌*◌, ◌<◌, ◌≤◌, nat_lt, ◌&&◌, List, [], All, length, slice_index_or, Option, None, IfSome, if◌then◌else◌}
 use Rattle.mill_base.specs.declared.size.Size.{Size}
 
--- a motif: pick by pick from the lowest, each pick from the left; a cell has a colour number, or nothing where it is not painted
+-- a motif: pick by pick from the lowest, each pick from the left; a cell has a colour number, or nothing where it is
+-- not painted
 pub record MotifCells : Type 0 where
   pub columns : ℕ
   pub picks : ℕ

@@ -8,8 +8,8 @@ use Rattle.strokes.specs.declared.fault.MotifFault.{MotifFault}
 use Rattle.strokes.specs.declared.fault.MotifFault.TheVariants.{Token, Colour, Ragged, TooLarge}
 use Rattle.strokes.specs.declared.motifs.NamedMotif.{NamedMotif}
 
--- A motif is spelled by its rows from the lowest pick upwards, each a text with a word for each cell, from the left. A word is a
--- colour number, or `.` for a cell that is not painted, which is no number.
+-- A motif is spelled by its rows from the lowest pick upwards, each a text with a word for each cell, from the left. A
+-- word is a colour number, or `.` for a cell that is not painted, which is no number.
 abbrev pub row_cells : List ℕ → List (Option ℕ)
 row_cells row = map number_of (words_of row)
 

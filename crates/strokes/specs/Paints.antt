@@ -1,4 +1,5 @@
--- What an act paints: a colour number, or nothing, in each cell of a paper. The acts and their rules are this project's own.
+-- What an act paints: a colour number, or nothing, in each cell of a paper. The acts and their rules are this project's
+-- own.
 use Rattle.std.specs.Prelude.{ℕ, ◌+◌, ◌-◌, ◌*◌, ◌/◌, ◌%◌, min, max, ◌==◌, nat_le, Bool, ◌&&◌, Option, Some, None, unwrap_or, if◌then◌else◌}
 use Rattle.std.specs.Option.{option_or}
 use Rattle.mill_base.specs.Below.{any_below}
@@ -20,9 +21,9 @@ distance a b = max a b - min a b
 abbrev pub towards : ℕ → ℕ → ℕ → ℕ
 towards a b k = if nat_le a b then a + k else a - k
 
--- The line rule. With dx and dy the distances in columns and in picks and n the greater of them, the line has the cells 0 to n. Cell i
--- lies floor((2 * i * dx + n) / (2 * n)) columns and floor((2 * i * dy + n) / (2 * n)) picks from the first corner towards the second.
--- Where n is 0 the line is one cell, since a quotient by 0 is 0.
+-- The line rule. With dx and dy the distances in columns and in picks and n the greater of them, the line has the cells
+-- 0 to n. Cell i lies floor((2 * i * dx + n) / (2 * n)) columns and floor((2 * i * dy + n) / (2 * n)) picks from the
+-- first corner towards the second. Where n is 0 the line is one cell, since a quotient by 0 is 0.
 unfoldable pub line_step : ℕ → ℕ → ℕ → ℕ
 line_step n d i = (2 * i * d + n) / (2 * n)
 

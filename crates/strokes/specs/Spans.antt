@@ -1,11 +1,11 @@
 -- Spans that paint what an act paints.
-use Rattle.std.specs.Prelude.{◌≡◌, ℕ, ◌+◌, ◌<◌, ◌≤◌, List, [], ◌∷◌, All, Contains, Option, Some, None, if◌then◌else◌}
+use Rattle.std.specs.Prelude.{◌≡◌, ℕ, ◌+◌, ◌<◌, ◌≤◌, List, [], ◌∷◌, All, Contains, Option, Some, None, if◌then◌else◌, length, ⊤}
 use Rattle.std.specs.Option.{option_or}
 use Rattle.mill_base.specs.declared.size.Size.{Size}
 use Rattle.point_paper.specs.Papers.{PaperCells, covers, paper_by, after_span}
 use Rattle.point_paper.specs.declared.paper.Span.{Span}
 use Rattle.strokes.specs.Cells.{MotifCells}
-use Rattle.strokes.specs.Paints.{paints}
+use Rattle.strokes.specs.Paints.{distance, paints}
 use Rattle.strokes.specs.declared.act.Act.{Act}
 use Rattle.strokes.specs.declared.act.Act.TheVariants.{Dot, Rect, Line, Stamp, HalfDrop, Commit}
 
@@ -38,11 +38,21 @@ IsColourOf motif (Stamp number column pick) colour = Contains motif.cells (Some 
 IsColourOf motif (HalfDrop number column pick) colour = Contains motif.cells (Some colour)
 IsColourOf motif Commit colour = ⊥
 
+-- how many spans an act takes: a rectangle and a line one for each pick; of stamps nothing is said here
+abbrev pub HasCount : Act → ℕ → Type 0
+HasCount (Dot colour column pick) count = count ≡ 1
+HasCount (Rect colour c0 p0 c1 p1) count = count ≡ distance p0 p1 + 1
+HasCount (Line colour c0 p0 c1 p1) count = count ≡ distance p0 p1 + 1
+HasCount (Stamp number column pick) count = ⊤
+HasCount (HalfDrop number column pick) count = ⊤
+HasCount Commit count = count ≡ 0
+
 -- the spans cover exactly what the act paints on a paper of the size, and lie inside it
 pub record AreSpansOf (motif : MotifCells) (size : Size) (act : Act) (spans : List Span) : Type 0 where
   pub cells : (c p : ℕ) → c < size.columns → p < size.picks → cover spans c p ≡ paints motif size act c p
   pub inside : All (IsInside size) spans
   pub colours : All (λ span. IsColourOf motif act span.colour) spans
+  pub count : HasCount act (length spans)
 
 -- an act with all that it takes to paint it: the size of the paper, the cells of the motif that it names, and its spans
 pub record PreparedAct : Type 0 where

@@ -1,7 +1,7 @@
 //! Acts: what a painter does, one after another.
 
-/// What a painter does to a paper. Columns are counted from the left and picks from the bottom, both from 0. What each act
-/// paints is this project's own rule; a stamp and a half drop put a motif, named by its number, round the repeat.
+/// What a painter does to a paper. Columns are counted from the left and picks from the bottom, both from 0. What each
+/// act paints is this project's own rule; a stamp and a half drop put a motif, named by its number, round the repeat.
 #[derive(Clone, Copy, Debug, PartialEq, Eq)]
 pub enum Act {
     /// One cell.

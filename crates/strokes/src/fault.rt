@@ -12,7 +12,8 @@ use std::fmt;
 /// The first rule that the text of an act breaks, in the order of the variants. Words are counted from 0.
 #[derive(Clone, Copy, Debug, PartialEq, Eq)]
 pub enum ActFault {
-    /// The first word, of place 0, is that of no act, or this is the place of the first word that is missing or superfluous.
+    /// The first word, of place 0, is that of no act, or this is the place of the first word that is missing or
+    /// superfluous.
     Word(u32),
     /// The word at this place should be a number.
     Number(u32),
@@ -24,8 +25,8 @@ pub enum ActFault {
     OutOfPaper,
 }
 
-/// The first rule that the rows of a motif break. Rows are counted from the lowest pick, words from the left, both from 0; a place
-/// above 4,294,967,295 is told as that number.
+/// The first rule that the rows of a motif break. Rows are counted from the lowest pick, words from the left, both from
+/// 0; a place above 4,294,967,295 is told as that number.
 #[derive(Clone, Copy, Debug, PartialEq, Eq)]
 pub enum MotifFault {
     /// A word is neither a number nor `.`.

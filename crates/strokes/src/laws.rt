@@ -11,7 +11,8 @@ ghost use Rattle.strokes.specs.Spans.{AreSpansOf, after_spans, cover};
 ghost use Rattle.strokes.specs.declared.act.Act.{Act};
 ghost use Rattle.strokes.specs.declared.motifs.NamedMotif.{NamedMotif};
 
-/// Spans that are painted one after another leave in each cell the colour of the last of them that has it, and else what was there.
+/// Spans that are painted one after another leave in each cell the colour of the last of them that has it, and else
+/// what was there.
 pub fn spans_are_painted_one_after_another()
     ensures { (paper : PaperCells) (spans : List Span) → IsPaper paper
         → after_spans paper spans ≡ paper_by paper.columns paper.picks (λ c p. unwrap_or (cover spans c p) (cell_of paper c p)) }
@@ -41,8 +42,8 @@ pub fn rows_without_a_fault_make_a_motif()
     ensures colours { (rows : List (List ℕ)) (colours : ℕ) (size : Size) → motif_fault rows colours size ≡ None → HasColours colours (motif_of rows) }
 {}
 
-/// The motif that an act names is no larger than the paper and has colours of the book, where this holds of each motif. The motif
-/// without a cell, which goes with acts that name none, is no larger than any paper.
+/// The motif that an act names is no larger than the paper and has colours of the book, where this holds of each motif.
+/// The motif without a cell, which goes with acts that name none, is no larger than any paper.
 pub fn the_motif_of_an_act_is_one_of_the_motifs()
     ensures small { (motifs : List NamedMotif) (size : Size) (act : Act) → All (λ m. IsNoLarger m.motif size) motifs → IsNoLarger (motif_of_act motifs act) size }
     ensures colours { (motifs : List NamedMotif) (colours : ℕ) (act : Act) → All (λ m. HasColours colours m.motif) motifs → HasColours colours (motif_of_act motifs act) }

@@ -1,5 +1,6 @@
-//! Straight lines of cells from one corner to the other. Where their cells lie, counted from 0, is this project's own rule.
-ghost use Rattle.std.specs.Prelude.{◌≡◌, ◌+◌, ◌<◌, ◌≤◌, ◌||◌, ◌^◌, ℕ, min, max, IfOk};
+//! Straight lines of cells from one corner to the other. Where their cells lie, counted from 0, is this project's own
+//! rule.
+ghost use Rattle.std.specs.Prelude.{◌≡◌, ◌+◌, ◌<◌, ◌≤◌, ◌||◌, ◌^◌, ℕ, min, max, IfOk, length, ◌≢◌};
 ghost use Rattle.mill_base.specs.Below.{any_below};
 ghost use Rattle.mill_base.specs.declared.size.Size.{Size};
 ghost use Rattle.point_paper.specs.Papers.{covers};
@@ -25,7 +26,8 @@ impl Corners {
     ) -> Result<Vec<Span>, OutOfMemory>
         requires first { IsCell size self.now.column0 self.now.pick0 }
         requires second { IsCell size self.now.column1 self.now.pick1 }
-        ensures { IfOk result (λ spans. PaintInColour size colour (is_on_line self.now.column0 self.now.pick0 self.now.column1 self.now.pick1) spans.items) }
+        ensures count { IfOk result (λ spans. length spans.items ≡ distance self.now.pick0 self.now.pick1 + 1) }
+        ensures paint { IfOk result (λ spans. PaintInColour size colour (is_on_line self.now.column0 self.now.pick0 self.now.column1 self.now.pick1) spans.items) }
     {
         let picks = self.pick0.abs_diff(self.pick1) as usize + 1;
         let mut spans = Vec::with_capacity(alloc, picks)?;
@@ -76,6 +78,9 @@ impl Corners {
         ensures level { (i : ℕ) → start ≤ i → i ≤ result
             → line_place (line_length self.now.column0 self.now.pick0 self.now.column1 self.now.pick1) self.now.pick0 self.now.pick1 i
             ≡ line_place (line_length self.now.column0 self.now.pick0 self.now.column1 self.now.pick1) self.now.pick0 self.now.pick1 start }
+        ensures whole { result < line_length self.now.column0 self.now.pick0 self.now.column1 self.now.pick1
+            → line_place (line_length self.now.column0 self.now.pick0 self.now.column1 self.now.pick1) self.now.pick0 self.now.pick1 (result + 1)
+            ≢ line_place (line_length self.now.column0 self.now.pick0 self.now.column1 self.now.pick1) self.now.pick0 self.now.pick1 start }
     {
         let last = self.last();
         let pick = self.pick(start);
@@ -124,8 +129,8 @@ fn place_between(a: u32, b: u32, last: u32, place: u32) -> u32
     towards(a, b, step(last, a.abs_diff(b), place))
 }
 
-#[tactic(auto, unfolding(crate::specs::Paints::line_step))]
 // the line rule: how far cell `place` lies from the first, of a distance
+#[tactic(auto, unfolding(crate::specs::Paints::line_step))]
 fn step(last: u32, distance: u32, place: u32) -> u32
     requires length { distance ≤ last }
     requires place { place ≤ last }

@@ -7,8 +7,8 @@ use mill_base::size::Size;
 use std::alloc::Global;
 use std::marker::Model;
 
-/// A motif of so many columns and picks, which contracts see as its cells. Each cell has a colour number, or None where it is not
-/// painted. Columns are counted from the left and picks from the bottom, both from 0.
+/// A motif of so many columns and picks, which contracts see as its cells. Each cell has a colour number, or None where
+/// it is not painted. Columns are counted from the left and picks from the bottom, both from 0.
 #[derive(Drop)]
 pub struct Motif {
     size: Size,

@@ -48,8 +48,9 @@ impl Motifs {
         }
     }
 
-    /// Adds the motif that the rows spell, from the lowest pick upwards, under a name, for papers of a size and a book of so many
-    /// colours. The fault that is told is the first, row by row and in a row word by word; at any fault the motifs stay as they are.
+    /// Adds the motif that the rows spell, from the lowest pick upwards, under a name, for papers of a size and a book
+    /// of so many colours. The fault that is told is the first, row by row and in a row word by word; at any fault the
+    /// motifs stay as they are.
     pub fn add(
         &mut self,
         name: &str,

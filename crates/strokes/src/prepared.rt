@@ -16,8 +16,8 @@ use point_paper::paper::Span;
 use std::alloc::Global;
 use std::marker::Model;
 
-/// An act with all that it takes to paint it: the size of the paper, a copy of the motif that the act names, and the spans that
-/// paint it, one after another.
+/// An act with all that it takes to paint it: the size of the paper, a copy of the motif that the act names, and the
+/// spans that paint it, one after another.
 #[derive(Drop)]
 pub struct Prepared {
     act: Act,
@@ -37,8 +37,8 @@ impl Model for Prepared {
 }
 
 impl Prepared {
-    /// The act, prepared for a paper of a size. Its cells are on the paper, and the motif that it names is there and no larger than the
-    /// paper. A commit has no span.
+    /// The act, prepared for a paper of a size. Its cells are on the paper, and the motif that it names is there and no
+    /// larger than the paper. A commit has no span.
     pub fn of(
         alloc: Global,
         act: &Act,
@@ -63,8 +63,8 @@ impl Prepared {
         })
     }
 
-    /// Whether this is the act, prepared for a paper of the size: the act and the size are the kept ones, and the motif that the act
-    /// names, if it names one, has the kept cells. Then the spans paint what the act paints.
+    /// Whether this is the act, prepared for a paper of the size: the act and the size are the kept ones, and the motif
+    /// that the act names, if it names one, has the kept cells. Then the spans paint what the act paints.
     pub fn is_of(&self, act: &Act, motifs: &Motifs, size: Size) -> bool
         ensures { IsTrue result ↔ ((self.now.act ≡ act.now) × (self.now.size ≡ size) × (self.now.motif ≡ motif_of_act motifs.now act.now)) }
     {
@@ -78,7 +78,8 @@ impl Prepared {
         &self.act
     }
 
-    /// The spans that paint the act, one after another: they cover exactly its cells, and lie inside the paper of the kept size.
+    /// The spans that paint the act, one after another: they cover exactly its cells, and lie inside the paper of the
+    /// kept size.
     pub fn spans(&self) -> &[Span]
         ensures spans { result.now ≡ self.now.spans }
         ensures paint { AreSpansOf self.now.motif self.now.size self.now.act self.now.spans }
@@ -190,9 +191,9 @@ fn half_drop(
 {
     let mut spans = Vec::new(alloc);
     push_stamp(&mut spans, motif, size, column, pick)?;
-    let column = half_on(size.columns, column);
-    let pick = half_on(size.picks, pick);
-    push_stamp(&mut spans, motif, size, column, pick)?;
+    let across = half_on(size.columns, column);
+    let up = half_on(size.picks, pick);
+    push_stamp(&mut spans, motif, size, across, up)?;
     Ok(spans)
 }
 

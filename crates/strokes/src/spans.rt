@@ -1,6 +1,6 @@
 //! Lists of spans.
-ghost use Rattle.std.specs.Prelude.{◌≡◌, ◌+◌, ◌<◌, ◌==◌, ◌&&◌, [], ◌∷◌, ◌++◌, min, max, nat_le, nat_lt, OnOk, IfOk};
-ghost use Rattle.strokes.specs.Paints.{is_between};
+ghost use Rattle.std.specs.Prelude.{◌≡◌, ◌+◌, ◌<◌, ◌==◌, ◌&&◌, [], ◌∷◌, ◌++◌, min, max, length, nat_le, nat_lt, OnOk, IfOk};
+ghost use Rattle.strokes.specs.Paints.{distance, is_between};
 ghost use Rattle.strokes.specs.Places.{IsCell};
 ghost use Rattle.strokes.specs.inner.Spans.{PaintInColour};
 
@@ -26,7 +26,8 @@ pub(crate) fn dot(
     pick: u32,
 ) -> Result<Vec<Span>, OutOfMemory>
     requires { IsCell size column pick }
-    ensures { IfOk result (λ spans. PaintInColour size colour (λ c p. (c == column) && (p == pick)) spans.items) }
+    ensures count { IfOk result (λ spans. length spans.items ≡ 1) }
+    ensures paint { IfOk result (λ spans. PaintInColour size colour (λ c p. (c == column) && (p == pick)) spans.items) }
 {
     let mut spans = Vec::with_capacity(alloc, 1)?;
     let span = Span {
@@ -48,7 +49,8 @@ pub(crate) fn rectangle(
 ) -> Result<Vec<Span>, OutOfMemory>
     requires first { IsCell size corners.now.column0 corners.now.pick0 }
     requires second { IsCell size corners.now.column1 corners.now.pick1 }
-    ensures { IfOk result (λ spans. PaintInColour size colour (λ c p. is_between corners.now.column0 corners.now.column1 c && is_between corners.now.pick0 corners.now.pick1 p) spans.items) }
+    ensures count { IfOk result (λ spans. length spans.items ≡ distance corners.now.pick0 corners.now.pick1 + 1) }
+    ensures paint { IfOk result (λ spans. PaintInColour size colour (λ c p. is_between corners.now.column0 corners.now.column1 c && is_between corners.now.pick0 corners.now.pick1 p) spans.items) }
 {
     let left = corners.column0.min(corners.column1);
     let length = corners.column0.abs_diff(corners.column1) + 1;

@@ -15,10 +15,10 @@ use mill_base::size::Size;
 use mill_base::words::{Words, number};
 
 impl Act {
-    /// The act that a text spells, in words between spaces, for a book of so many colours and a paper of a size: `dot colour c p`,
-    /// `rect colour c0 p0 c1 p1`, `line colour c0 p0 c1 p1`, `stamp name c p`, `halfdrop name c p` or `commit`, with columns c and
-    /// picks p. A motif is named, and of several with one name the least number counts. A text that spells no act is answered by the
-    /// first rule that it breaks. It takes no memory.
+    /// The act that a text spells, in words between spaces, for a book of so many colours and a paper of a size: `dot
+    /// colour c p`, `rect colour c0 p0 c1 p1`, `line colour c0 p0 c1 p1`, `stamp name c p`, `halfdrop name c p` or
+    /// `commit`, with columns c and picks p. A motif is named, and of several with one name the least number counts. A
+    /// text that spells no act is answered by the first rule that it breaks. It takes no memory.
     pub fn parse(text: &str, colours: u32, size: Size, motifs: &Motifs) -> Result<Act, ActFault>
         requires { colours ≤ MAX_COLOURS }
         ensures act { result ≡ parsed_act text.now colours size motifs.now }

@@ -12,7 +12,8 @@ use mill_base::memory::OutOfMemory;
 use mill_base::size::Size;
 use point_paper::paper::Span;
 
-/// Adds the spans of a motif with its lowest left cell at a cell: one for each stretch of equal colour, cut at the edge of the repeat.
+/// Adds the spans of a motif with its lowest left cell at a cell: one for each stretch of equal colour, cut at the edge
+/// of the repeat.
 pub(crate) fn push_stamp(
     spans: &mut Vec<Span>,
     motif: &Motif,

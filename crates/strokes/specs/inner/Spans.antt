@@ -13,7 +13,8 @@ pub record PaintInColour (size : Size) (colour : ℕ) (has : ℕ → ℕ → Boo
   pub inside : All (IsInside size) spans
   pub colours : All (λ span. span.colour ≡ colour) spans
 
--- spans that were added paint what the formula says over what the spans before them paint, with colours of a motif's cells
+-- spans that were added paint what the formula says over what the spans before them paint, with colours of a motif's
+-- cells
 pub record AreAdded (size : Size) (all : List (Option ℕ)) (painted : ℕ → ℕ → Option ℕ) (old new : List Span) : Type 0 where
   pub over : (c p : ℕ) → c < size.columns → p < size.picks → cover new c p ≡ option_or (painted c p) (cover old c p)
   pub inside : All (IsInside size) old → All (IsInside size) new

@@ -1,4 +1,5 @@
-use Rattle.std.proofs.Common.{◌≡◌, ◌≤◌, ◌+◌, ◌&&◌, ◌||◌, ℕ, min, max, refl, arith}
+use Rattle.std.proofs.Common.{◌≡◌, ◌≤◌, ◌+◌, ◌&&◌, ◌||◌, ℕ, min, max, length, ap, ◌∙◌, refl, arith}
+use Rattle.std.proofs.lemmas.List.{length_push}
 use Rattle.std.specs.Prelude.{◌==◌, nat_le, nat_lt}
 use Rattle.std.proofs.lemmas.Bool.Decides.{nat_tests}
 use Rattle.point_paper.specs.declared.paper.Span.{Span}
@@ -22,6 +23,9 @@ loop-pick-preserved c =
       columns = omega (arith, c.min-left.ensures, c.abs_diff-length.ensures, c.requires.first.column, c.requires.second.column);
     } in
     let wide : c.min-left.result + (c.abs_diff-length.result + 1) ≡ max corners.column0 corners.column1 + 1 = omega (arith, c.min-left.ensures, c.abs_diff-length.ensures) in
-    rw c.in_ok-push_span.ensures (colour_push c.args.size c.args.colour _ _ c.loop-pick.spans.items span c.loop-pick.invariant inside refl
-    (λ x p. pick_more (min corners.column0 corners.column1) (max corners.column0 corners.column1) c.min-left.result c.min-low.result c.loop-pick.pick (c.abs_diff-length.result + 1) x p
-    c.min-left.ensures wide c.loop-pick.auto.pick))
+    let counted = c.loop-pick.invariant.0 in (
+      omega (arith, ap length c.in_ok-push_span.ensures ∙ length_push c.loop-pick.spans.items span, counted),
+      rw c.in_ok-push_span.ensures (colour_push c.args.size c.args.colour _ _ c.loop-pick.spans.items span c.loop-pick.invariant.1 inside refl
+          (λ x p. pick_more (min corners.column0 corners.column1) (max corners.column0 corners.column1) c.min-left.result c.min-low.result c.loop-pick.pick (c.abs_diff-length.result + 1) x p
+          c.min-left.ensures wide c.loop-pick.auto.pick)),
+    )
