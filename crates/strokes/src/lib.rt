@@ -1,4 +1,5 @@
-//! Strokes: the acts of a painter, what each of them paints, the texts of acts and motifs, and the spans that paint an act.
+//! Strokes: the acts of a painter, what each of them paints, the texts of acts and motifs, and the spans that paint an
+//! act.
 #![tactic(auto)]
 
 pub mod act;
@@ -13,3 +14,5 @@ pub mod prepared;
 mod spans;
 pub mod spelling;
 mod stamp;
+#[cfg(test)]
+mod tests;
