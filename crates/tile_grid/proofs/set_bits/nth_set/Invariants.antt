@@ -1,0 +1,7 @@
+use Rattle.std.proofs.Common.{◌≡◌, ◌+◌, ◌*◌}
+use Rattle.mill_base.specs.Below.{count_below}
+use Rattle.mill_base.specs.Bits.{bit_of}
+use Rattle.tile_grid.proofs.set_bits.nth_set.Given as goal
+
+abbrev pub invariant-loop-index : goal.invariant-loop-index
+invariant-loop-index l = count_below (bit_of l.words) (64 * l.index) + l.left ≡ l.k
