@@ -2,6 +2,8 @@ pub mod Counts
 pub mod Crossings
 pub mod Kept
 pub mod KindLines
+pub mod Places
+pub mod WholeNumbers
 pub mod Walked
 pub mod Windows
 pub mod lemmas

@@ -4,6 +4,7 @@
 mod crossing;
 pub mod grid;
 mod kinds;
+pub mod laws;
 mod set_bits;
 mod walk;
 mod window;
