@@ -1,5 +1,5 @@
--- The tiles of one tile row and one tile column, in rising order. `n` tiles stand side by side; `p` says which tile columns are marked,
--- and `q` which tile rows; the tile in column i of row j is one that is crossed from both sides.
+-- The tiles of one tile row and one tile column, in rising order. `n` tiles stand side by side; `p` says which tile
+-- columns are marked, and `q` which tile rows; the tile in column i of row j is one that is crossed from both sides.
 use Rattle.std.proofs.Common.{◌≡◌, ◌≢◌, ℕ, zero, suc, ◌+◌, ◌-◌, ◌*◌, ◌/◌, ◌%◌, ◌<◌, ◌≤◌, ◌==◌, Bool, true, false, ◌&&◌, ◌||◌, cond, List, length, get_or, refl, sym, ap, subst, ◌∙◌, ⊎_elim, arith, eq-eqb, ne_eqb, count_by}
 use Rattle.std.proofs.Math.Nat.{suc-mul}
 use Rattle.std.proofs.lemmas.Bool.{cases_eq, cases_lt, and_left, cond-true}

@@ -7,7 +7,8 @@ use Rattle.tile_grid.specs.Tiles.{GridValue, tile_of, tiles}
 abbrev pub is_near : ℕ → ℕ → ℕ → ℕ → Bool
 is_near n limit x y = nat_le ((y + n - x) % n) limit || nat_le ((x + n - y) % n) limit
 
--- on a line of n places, each of some kind, a place of kind a and a place of kind b lie within the limit, round its edge
+-- on a line of n places, each of some kind, a place of kind a and a place of kind b lie within the limit, round its
+-- edge
 unfoldable pub kinds_near : ℕ → ℕ → (ℕ → ℕ) → ℕ → ℕ → Bool
 kinds_near n limit kind a b = any_below (λ x. kind x == a && any_below (λ y. kind y == b && is_near n limit x y) n) n
 
@@ -19,8 +20,8 @@ ends_near grid c d = kinds_near (length grid.tie) grid.weft_limit (slice_index g
 abbrev pub picks_near : GridValue → ℕ → ℕ → Bool
 picks_near grid p q = is_near grid.picks grid.warp_limit p q
 
--- the cell in column c of pick p and the cell in column d of pick q: they are of one pick and have ends near one another, or of one
--- column and of picks near one another
+-- the cell in column c of pick p and the cell in column d of pick q: they are of one pick and have ends near one
+-- another, or of one column and of picks near one another
 abbrev pub cells_near : GridValue → ℕ → ℕ → ℕ → ℕ → Bool
 cells_near grid c p d q = (p == q && ends_near grid c d) || (c == d && picks_near grid p q)
 

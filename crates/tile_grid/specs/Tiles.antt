@@ -3,8 +3,8 @@ use Rattle.std.specs.Prelude.{ℕ, ◌+◌, ◌-◌, ◌*◌, ◌/◌, ◌%◌, 
 use Rattle.mill_base.specs.Limits.{IsWithin}
 use Rattle.mill_base.specs.declared.limits.TheConstants.{MAX_COLUMNS, MAX_PICKS, MAX_ENDS, MAX_FLOAT, MIN_TILE, MAX_TILE}
 
--- what contracts see of a grid: the size of the paper, the side of a tile, the column of each end of the tie, and how many ends along a
--- pick and how many picks along a column a change can reach
+-- what contracts see of a grid: the size of the paper, the side of a tile, the column of each end of the tie, and how
+-- many ends along a pick and how many picks along a column a change can reach
 pub record GridValue : Type 0 where
   pub columns : ℕ
   pub picks : ℕ
@@ -42,7 +42,8 @@ tile_column grid tile = tile % across grid
 abbrev pub tile_row : GridValue → ℕ → ℕ
 tile_row grid tile = tile / across grid
 
--- what holds of every grid that was built: all sizes are within the studio's limits, and each end is tied to a column that is there
+-- what holds of every grid that was built: all sizes are within the studio's limits, and each end is tied to a column
+-- that is there
 pub record IsTileGrid (grid : GridValue) : Type 0 where
   pub columns_limit : IsWithin 1 grid.columns MAX_COLUMNS
   pub picks_limit : IsWithin 1 grid.picks MAX_PICKS

@@ -5,8 +5,9 @@ ghost use Rattle.tile_grid.specs.inner.Tables.{IsCrossedAt};
 use crate::set_bits::{count_before, nth_true};
 use mill_base::bit_row::BitRow;
 
-/// The k-th of the tiles that stand in a tile row and in a true tile column, or in a tile column and in a true tile row, where the tile
-/// of both is among them. In rising order these are the ones below the tile row, those of the tile row, and the ones above.
+/// The k-th of the tiles that stand in a tile row and in a true tile column, or in a tile column and in a true tile
+/// row, where the tile of both is among them. In rising order these are the ones below the tile row, those of the tile
+/// row, and the ones above.
 pub fn nth_crossed(columns: &BitRow, rows: &BitRow, tile_column: u32, tile_row: u32, k: u32) -> u32
     requires few { length columns.now * length rows.now < 2 ^ 32 }
     requires tile_column { tile_column < length columns.now }

@@ -17,8 +17,8 @@ use mill_base::size::Size;
 use std::alloc::Global;
 use std::marker::Model;
 
-/// The tiles of a paper, with the near tile columns of each tile column and the near tile rows of each tile row: a near tile stands in
-/// one tile row with its tile, or in one tile column. Tiles are this project's own.
+/// The tiles of a paper, with the near tile columns of each tile column and the near tile rows of each tile row: a near
+/// tile stands in one tile row with its tile, or in one tile column. Tiles are this project's own.
 #[derive(Drop)]
 pub struct Grid {
     size: Size,
@@ -59,9 +59,10 @@ impl Model for Grid {
 }
 
 impl Grid {
-    /// The grid of the tiles of so many columns and picks of a paper, under a tie for its columns. The limits say how many ends along a
-    /// pick, and how many picks along a column, a change can reach: the greater of the two weft limits, and of the two warp limits. The
-    /// walk over ends and picks takes time by their number and by that of the tile columns and tile rows.
+    /// The grid of the tiles of so many columns and picks of a paper, under a tie for its columns. The limits say how
+    /// many ends along a pick, and how many picks along a column, a change can reach: the greater of the two weft
+    /// limits, and of the two warp limits. The walk over ends and picks takes time by their number and by that of the
+    /// tile columns and tile rows.
     pub fn build(
         alloc: Global,
         size: Size,

@@ -11,8 +11,8 @@ pub fn nearness_goes_both_ways()
     ensures symmetric { (grid : GridValue) (t u : ℕ) → near grid t u ≡ near grid u t }
 {}
 
-/// Near tiles stand in one tile row, with near tile columns, or in one tile column, with near tile rows. So a grid keeps a row of truth
-/// values for each tile column and each tile row, and none for each tile.
+/// Near tiles stand in one tile row, with near tile columns, or in one tile column, with near tile rows. So a grid
+/// keeps a row of truth values for each tile column and each tile row, and none for each tile.
 pub fn near_tiles_share_a_row_or_a_column()
     ensures { (grid : GridValue) (t u : ℕ) → IsTileGrid grid → t < tiles grid
         → near grid t u
@@ -20,8 +20,8 @@ pub fn near_tiles_share_a_row_or_a_column()
         || (tile_column grid t == tile_column grid u && near_rows grid (tile_row grid t) (tile_row grid u))) }
 {}
 
-/// The tile of a cell is there, and cells that are near one another are of near tiles: on one pick those of two ends within the weft
-/// limit, and in one column those of two picks within the warp limit.
+/// The tile of a cell is there, and cells that are near one another are of near tiles: on one pick those of two ends
+/// within the weft limit, and in one column those of two picks within the warp limit.
 pub fn near_cells_are_of_near_tiles()
     ensures there { (grid : GridValue) (c p : ℕ) → IsTileGrid grid → c < grid.columns → p < grid.picks → tile_of grid c p < tiles grid }
     ensures cells { (grid : GridValue) (c p d q : ℕ) → c < grid.columns → p < grid.picks → d < grid.columns → q < grid.picks
@@ -40,8 +40,8 @@ pub fn each_near_tile_has_its_place()
     ensures one { (grid : GridValue) (t k u v : ℕ) → IsNearAt grid t k u → IsNearAt grid t k v → u ≡ v }
 {}
 
-/// Places of a line of n places that is followed round its edge for ever: x and y are near where whole numbers at most the limit apart
-/// are x and y but for whole turns.
+/// Places of a line of n places that is followed round its edge for ever: x and y are near where whole numbers at most
+/// the limit apart are x and y but for whole turns.
 pub fn near_places_are_those_of_near_whole_numbers()
     ensures { (n limit x y : ℕ) → x < n → y < n
         → IsTrue (is_near n limit x y) ↔ ((v : ℤ) × (w : ℤ) × AreWithin limit v w × (remainder v n ≡ x) × (remainder w n ≡ y)) }

@@ -12,8 +12,8 @@ use mill_base::limits::{MAX_ENDS, MAX_FLOAT};
 use mill_base::memory::OutOfMemory;
 use std::alloc::Global;
 
-/// Which kinds are near which: each is near itself, and kinds are that have places within the limit, round the line. `kinds` has the
-/// kind of each place.
+/// Which kinds are near which: each is near itself, and kinds are that have places within the limit, round the line.
+/// `kinds` has the kind of each place.
 pub fn walk(alloc: Global, kinds: &[u32], count: u32, limit: u32) -> Result<BitGrid, OutOfMemory>
     requires some { 0 < length kinds.now }
     requires few { length kinds.now ≤ MAX_ENDS }

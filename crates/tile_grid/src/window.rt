@@ -6,7 +6,8 @@ use mill_base::memory::OutOfMemory;
 use std::alloc::Global;
 use std::marker::Model;
 
-/// How many places of each kind the window has, and the set of the kinds of which it has some. Contracts see the counts, kind by kind.
+/// How many places of each kind the window has, and the set of the kinds of which it has some. Contracts see the
+/// counts, kind by kind.
 #[derive(Drop)]
 pub struct Window {
     counts: Vec<u32>,

@@ -8,7 +8,8 @@ use Rattle.tile_grid.specs.Near.{kinds_near, ends_near, picks_near, near, near_c
 use Rattle.tile_grid.proofs.lemmas.Near.{NearCells, kinds_near_here, kinds_near_witness, near_by_cells, near_itself, near_cases}
 use Rattle.tile_grid.proofs.lemmas.Tiles.{side_some, column_of_cell, row_of_cell, tile_is, cell_of_tile, first_column, first_pick, first_of_tile}
 
--- the tile row of t is that of u, and their tile columns are near; or the tile column of t is that of u, and their tile rows are near
+-- the tile row of t is that of u, and their tile columns are near; or the tile column of t is that of u, and their tile
+-- rows are near
 abbrev pub is_split : GridValue → ℕ → ℕ → Bool
 is_split grid t u =
     (tile_row grid t == tile_row grid u && near_columns grid (tile_column grid t) (tile_column grid u))

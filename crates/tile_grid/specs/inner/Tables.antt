@@ -10,8 +10,8 @@ pub record IsTable (n : ℕ) (cell : ℕ → ℕ → Bool) (grid : GridCells) : 
   pub height : length grid.rows ≡ n
   pub lines : (i : ℕ) → i < n → grid_row grid i ≡ line_by n (cell i)
 
--- of the tiles of two rows of tile columns and tile rows: tile u stands in tile row j and in a true tile column, or in tile column i and
--- in a true tile row
+-- of the tiles of two rows of tile columns and tile rows: tile u stands in tile row j and in a true tile column, or in
+-- tile column i and in a true tile row
 abbrev pub is_crossed : List Bool → List Bool → ℕ → ℕ → ℕ → Bool
 is_crossed columns rows i j u =
     (j == u / length columns && slice_index_or columns (u % length columns) false)
