@@ -6,5 +6,7 @@ pub mod grid;
 mod kinds;
 pub mod laws;
 mod set_bits;
+#[cfg(test)]
+mod tests;
 mod walk;
 mod window;
