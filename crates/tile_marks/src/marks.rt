@@ -47,7 +47,8 @@ impl Marks {
     pub fn mark_near(&mut self, grid: &Grid, tile: u32)
         requires grid { length self.old ≡ tiles grid.now }
         requires tile { tile < length self.old }
-        ensures { self.new ≡ with_near grid.now tile self.old }
+        ensures set { self.new ≡ with_near grid.now tile self.old }
+        ensures len { length self.new ≡ length self.old }
     {
         let across = grid.across();
         let column = tile % across;

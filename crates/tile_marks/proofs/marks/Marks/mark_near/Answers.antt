@@ -11,8 +11,11 @@ mark_column-requires-clause-few c =
     (sym (ap (λ n. n * length c.near_rows.result.now) c.across-across.ensures.count ∙ ap (λ n. across c.args.grid.now * n) c.near_rows.ensures.len))
     (let few = tiles_few c.args.grid.now c.across-across.ensures.grid in omega arith)
 
-pub returns : goal.returns
-returns c =
+pub returns-clause-len : goal.returns-clause-len
+returns-clause-len c = c.mark_column.ensures.len ∙ c.or_range.ensures.len ∙ ap length c.self.view_is
+
+pub returns-clause-set : goal.returns-clause-set
+returns-clause-set c =
     let grid = c.args.grid.now in
     let w = c.across-across.result in
     let t = c.args.tile in
