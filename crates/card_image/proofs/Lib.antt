@@ -1,0 +1,12 @@
+mod Alike
+mod Bits
+mod Cards
+mod Complete
+mod Counting
+mod Feeding
+mod Firsts
+mod Masks
+mod Sound
+mod Told
+mod Words
+mod Written

@@ -1,0 +1,12 @@
+//! Cards, one for each pick of a cloth, and the chain of bytes in which they are kept and handed on.
+#![tactic(auto)]
+
+mod card_fault;
+pub mod card_set;
+pub mod decoder;
+pub mod fault;
+mod holes;
+pub mod laws;
+mod plan;
+mod so_far;
+mod writing;
