@@ -3,10 +3,12 @@ mod Bits
 mod Cards
 mod Complete
 mod Counting
+mod Cut
 mod Feeding
 mod Firsts
 mod Masks
 mod Sound
 mod Told
+mod Turned
 mod Words
 mod Written

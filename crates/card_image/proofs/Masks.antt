@@ -1,7 +1,8 @@
 -- The hooks of the columns as a card of their holes.
-use Rattle.std.proofs.Common.{All, zero, suc, not, ◌&&◌, min, bit_and, subst, ◌≡◌, ◌≢◌, ⊎_elim, ℕ, ◌+◌, ◌-◌, ◌*◌, ◌/◌, ◌%◌, ◌^◌, ◌<◌, ◌≤◌, ◌==◌, Bool, true, false, ◌||◌, List, length, take, set, get_or, slice_index, bit_or, sym, ap, refl, ◌∙◌, zero-add, get_or-set_same, get_or-set_other, w8, arith}
+use Rattle.std.proofs.Common.{All, zero, suc, not, ◌&&◌, min, bit_and, subst, ◌≡◌, ◌≢◌, ⊎_elim, ℕ, ◌+◌, ◌-◌, ◌*◌, ◌/◌, ◌%◌, ◌^◌, ◌<◌, ◌≤◌, ◌==◌, Bool, true, false, ◌||◌, List, length, set, get_or, bit_or, sym, ap, refl, ◌∙◌, zero-add, get_or-set_same, get_or-set_other, w8, arith}
 use Rattle.std.proofs.lemmas.List.{get_or_past}
-use Rattle.std.proofs.lemmas.List.Folds.{list_any_more, list_any_none}
+use Rattle.mill_base.specs.Below.{any_below}
+use Rattle.mill_base.proofs.lemmas.Belows.{any_none}
 use Rattle.std.proofs.lemmas.Bool.{cases_eq, cases_lt, eq-eqb, ne_eqb}
 use Rattle.std.proofs.lemmas.Nat.Bits.{bit_at-lt, bit_at-zero, bit_at_and, bit_at_not, bit_at_set_same, bit_at_set_other}
 use Rattle.std.specs.Int.{bit_at, bit_not}
@@ -16,35 +17,38 @@ or_false false = refl
 pub hole_here : (bytes : List ℕ) (h : ℕ) → hole_at bytes 0 h ≡ (bit_at (get_or bytes (h / 8) 0) (7 - h % 8) == 1)
 hole_here bytes h = ap (λ (i : ℕ). bit_at (get_or bytes i 0) (7 - h % 8) == 1) (zero-add (h / 8))
 
-pub mask_more : (mask columns : List ℕ) (hooks k hook byte : ℕ) → k < length columns → slice_index columns k ≡ hook → hook < hooks → length mask ≡ hole_bytes hooks
-    → byte ≡ get_or mask (hook / 8) 0 → ((h : ℕ) → h < 8 * hole_bytes hooks → hole_at mask 0 h ≡ hangs (take k columns) h)
-    → (h : ℕ) → h < 8 * hole_bytes hooks → hole_at (set mask (hook / 8) (bit_or byte (1 * 2 ^ (7 - hook % 8) % 256))) 0 h ≡ hangs (take (k + 1) columns) h
-mask_more mask columns hooks k hook byte low is below long read before h within =
+-- the hook of one column more is marked
+pub mask_more : (mask columns : List ℕ) (hooks k hook : ℕ) → get_or columns k 0 ≡ hook → hook < hooks → length mask ≡ hole_bytes hooks
+    → ((h : ℕ) → h < 8 * hole_bytes hooks → hole_at mask 0 h ≡ any_below (λ c. get_or columns c 0 == h) k)
+    → (h : ℕ) → h < 8 * hole_bytes hooks → hole_at (set mask (hook / 8) (bit_or (get_or mask (hook / 8) 0) (1 * 2 ^ (7 - hook % 8) % 256))) 0 h ≡ any_below (λ c. get_or columns c 0 == h) (suc k)
+mask_more mask columns hooks k hook is below long before h within =
     let there : hook / 8 < length mask = omega (arith, below, long) in
+    let byte = get_or mask (hook / 8) 0 in
     let new = bit_or byte (1 * 2 ^ (7 - hook % 8) % 256) in
-    let more : hangs (take (k + 1) columns) h ≡ (hangs (take k columns) h || (slice_index columns k == h)) = list_any_more (λ x. x == h) columns k 0 low in
+    let some : ℕ → Bool = λ i. any_below (λ c. get_or columns c 0 == i) k in
     hole_here (set mask (hook / 8) new) h ∙ ⊎_elim
     (λ (here : h ≡ hook).
     ap (λ (i : ℕ). bit_at (get_or (set mask (hook / 8) new) (i / 8) 0) (7 - i % 8) == 1) here
     ∙ ap (λ (b : ℕ). bit_at b (7 - hook % 8) == 1) (get_or-set_same mask (hook / 8) new 0 there)
     ∙ ap (λ (b : ℕ). b == 1) (bit_at_set_same w8 byte (7 - hook % 8) (omega arith))
-    ∙ sym (more ∙ ap (λ b. hangs (take k columns) h || b) (eq-eqb (slice_index columns k) h (is ∙ sym here)) ∙ or_true (hangs (take k columns) h)))
+    ∙ sym (ap (λ b. some h || b) (eq-eqb (get_or columns k 0) h (is ∙ sym here)) ∙ or_true (some h)))
     (λ (other : h ≢ hook).
     ⊎_elim
     (λ (same : h / 8 ≡ hook / 8).
     let apart : 7 - h % 8 ≢ 7 - hook % 8 = omega (arith, other, same) in
     ap (λ (b : ℕ). bit_at b (7 - h % 8) == 1) (ap (λ (i : ℕ). get_or (set mask (hook / 8) new) i 0) same ∙ get_or-set_same mask (hook / 8) new 0 there)
     ∙ ap (λ (b : ℕ). b == 1) (bit_at_set_other w8 byte (7 - hook % 8) (omega arith) (7 - h % 8) apart)
-    ∙ ap (λ (b : ℕ). bit_at b (7 - h % 8) == 1) (read ∙ ap (λ (i : ℕ). get_or mask i 0) (sym same)))
+    ∙ ap (λ (i : ℕ). bit_at (get_or mask i 0) (7 - h % 8) == 1) (sym same))
     (λ (away : h / 8 ≢ hook / 8). ap (λ (b : ℕ). bit_at b (7 - h % 8) == 1) (get_or-set_other mask (hook / 8) (h / 8) new 0 away))
     (cases_eq (h / 8) (hook / 8))
     ∙ sym (hole_here mask h) ∙ before h within
-    ∙ sym (more ∙ ap (λ b. hangs (take k columns) h || b) (ne_eqb (slice_index columns k) h (λ e. other (sym e ∙ is))) ∙ or_false (hangs (take k columns) h)))
+    ∙ sym (ap (λ b. some h || b) (ne_eqb (get_or columns k 0) h (λ e. other (sym e ∙ is))) ∙ or_false (some h)))
     (cases_eq h hook)
 
 -- no column hangs on a hook past the last
 pub hangs_not : (hooks : ℕ) (columns : List ℕ) → All (λ h. h < hooks) columns → (h : ℕ) → hooks ≤ h → hangs columns h ≡ false
-hangs_not hooks columns all h past = list_any_none (λ k. k == h) columns (λ i d low. ne_eqb (get_or columns i d) h (λ e. let below = all i d low in omega (arith, below, past, e)))
+hangs_not hooks columns all h past =
+    any_none (λ c. get_or columns c 0 == h) (length columns) (λ c low. ne_eqb (get_or columns c 0) h (λ e. let below = all c 0 low in omega (arith, below, past, e)))
 
 -- bytes that are all 0 have no hole
 pub none_marked : (bytes : List ℕ) → ((j : ℕ) → get_or bytes j 0 ≡ 0) → (h : ℕ) → hole_at bytes 0 h ≡ false

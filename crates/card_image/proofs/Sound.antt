@@ -1,7 +1,7 @@
 -- Bytes of the whole length without a fault are a chain.
-use Rattle.std.proofs.Common.{◌≡◌, ⊎_elim, ℕ, zero, suc, ◌+◌, ◌-◌, ◌*◌, ◌/◌, ◌%◌, ◌<◌, ◌≤◌, ◌==◌, Bool, true, false, cond, not, ◌&&◌, ◌||◌, List, [], ◌∷◌, length, take, get_or, Option, Some, None, sym, ap, subst, refl, ◌∙◌, zero-add, arith}
+use Rattle.std.proofs.Common.{◌≡◌, ⊎_elim, ℕ, zero, suc, ◌+◌, ◌-◌, ◌*◌, ◌/◌, ◌%◌, ◌<◌, ◌≤◌, ◌==◌, Bool, true, false, cond, ltb, not, ◌&&◌, ◌||◌, List, [], ◌∷◌, length, take, get_or, Option, Some, None, sym, ap, subst, refl, ◌∙◌, zero-add, arith}
 use Rattle.std.proofs.lemmas.List.{get_or-take, get_or_past, length-take-le}
-use Rattle.std.proofs.lemmas.Bool.{cases_lt, eqb-true}
+use Rattle.std.proofs.lemmas.Bool.{cases_lt, eqb-true, ltb-false}
 use Rattle.std.specs.Int.{bit_at}
 use Rattle.byteorder.specs.Endian.{big_bytes}
 use Rattle.mill_base.specs.declared.face.Face.{Face}
@@ -13,11 +13,11 @@ use Rattle.card_image.specs.Firsts.{first_of, passing}
 use Rattle.mill_base.specs.Below.{count_below}
 use Rattle.card_image.specs.Places.{magic, hole_bytes, card_place, chain_length, number_at, hole_at}
 use Rattle.card_image.specs.Sets.{hangs}
-use Rattle.card_image.specs.Faults.{begins, once, magic_fault, header_fault, number_fault, has_pad, first_idle, idle_fault, count_fault, holes_fault, card_fault, head_fault, excess_fault, chain_fault}
+use Rattle.card_image.specs.Faults.{begins, once, magic_fault, header_fault, number_fault, has_pad, first_idle, idle_fault, count_fault, holes_fault, card_fault, head_fault, excess_fault, chain_fault, end_fault}
 use Rattle.card_image.specs.Chains.{StandsAt, hole_count, IsCard, CardStandsAt, Chain}
 use Rattle.card_image.specs.Sets.{hole_of}
 use Rattle.card_image.specs.inner.Kept.{face_of, card_of, cards_of}
-use Rattle.card_image.specs.declared.fault.ChainFault.TheVariants.{BadMagic, PadBit}
+use Rattle.card_image.specs.declared.fault.ChainFault.TheVariants.{BadMagic, PadBit, Excess, Truncated}
 use Rattle.card_image.proofs.Firsts.{both_none, each_none}
 use Rattle.mill_base.proofs.lemmas.Belows.{any_not, count_alike}
 use Rattle.mill_base.proofs.lemmas.Lines.{length-line_by, get_or-line_by}
@@ -165,6 +165,18 @@ pub cards_at : (d : CardDesign) (bytes : List ℕ) (pick : ℕ) → pick < d.pic
 unfolding cards_of
 cards_at d bytes pick low = get_or-line_by d.picks (card_of d.hooks bytes) pick [] low
 
+-- bytes that show no fault are no more than a chain
+none_past : (d : CardDesign) (bytes : List ℕ) → chain_fault d bytes ≡ None → length bytes ≤ chain_length d
+unfolding chain_fault
+none_past d bytes none =
+    let parts = both_none (head_fault d.hooks d.picks bytes) (option_or (first_of (card_fault d.hooks d.columns bytes) d.picks) (excess_fault d bytes)) none in
+    let last = both_none (first_of (card_fault d.hooks d.columns bytes) d.picks) (excess_fault d bytes) parts.1 in
+    ⊎_elim
+    (λ (low : length bytes < chain_length d + 1). omega (arith, low))
+    (λ (past : chain_length d + 1 ≤ length bytes).
+    let e : Some (Excess (chain_length d)) ≡ None = sym (once_yes bytes (chain_length d + 1) (Some (Excess (chain_length d))) past) ∙ last.1 in absurd (cc))
+    (cases_lt (length bytes) (chain_length d + 1))
+
 -- bytes of the whole length that show no fault are the chain of the cards that they hold
 pub chain_sound : (d : CardDesign) (bytes : List ℕ) → chain_fault d bytes ≡ None → length bytes ≡ chain_length d → IsBytes bytes → Chain d bytes (face_of bytes) (cards_of d bytes)
 unfolding chain_fault head_fault
@@ -189,3 +201,16 @@ chain_sound d bytes none long small =
       each = λ pick low. subst (IsCard d) (sym (cards_at d bytes pick low)) (each pick low).0;
       stand = λ pick low. subst (CardStandsAt bytes (card_place d.hooks pick) pick) (sym (cards_at d bytes pick low)) (each pick low).1;
     }
+
+-- so bytes that have no fault at their end are a chain
+pub whole_sound : (d : CardDesign) (bytes : List ℕ) → IsBytes bytes → end_fault d bytes ≡ None → Chain d bytes (face_of bytes) (cards_of d bytes)
+unfolding end_fault
+whole_sound d bytes small none =
+    let ends = both_none (chain_fault d bytes) (cond (ltb (length bytes) (chain_length d)) (Some (Truncated (chain_length d) (length bytes))) None) none in
+    chain_sound d bytes ends.0 (exact (reaches (ltb (length bytes) (chain_length d)) refl ends.1) (none_past d bytes ends.0)) small where
+      reaches : (b : Bool) → ltb (length bytes) (chain_length d) ≡ b → cond b (Some (Truncated (chain_length d) (length bytes))) None ≡ None → chain_length d ≤ length bytes
+      reaches true is e = absurd (cc)
+      reaches false is e = ltb-false (length bytes) (chain_length d) is
+
+      exact : chain_length d ≤ length bytes → length bytes ≤ chain_length d → length bytes ≡ chain_length d
+      exact a b = omega (arith, a, b)

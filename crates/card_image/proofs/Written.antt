@@ -1,5 +1,5 @@
 -- A chain that is written card by card.
-use Rattle.std.proofs.Common.{◌≡◌, ⊎_elim, ℕ, suc, ◌+◌, ◌<◌, ◌≤◌, Bool, List, [], ◌++◌, length, length-append, append_assoc, get_or, sym, ap, subst, refl, ◌∙◌, zero-add, arith}
+use Rattle.std.proofs.Common.{◌≡◌, ⊎_elim, ℕ, suc, ◌+◌, ◌^◌, ◌<◌, ◌≤◌, Bool, None, List, [], ◌++◌, length, length-append, append_assoc, get_or, sym, ap, subst, refl, ◌∙◌, zero-add, arith}
 use Rattle.std.proofs.lemmas.List.{get_or_append_left, get_or-append-add}
 use Rattle.std.proofs.lemmas.Bool.{cases_lt}
 use Rattle.byteorder.specs.Endian.{big_bytes}
@@ -7,13 +7,14 @@ use Rattle.mill_base.specs.Bits.{packed}
 use Rattle.mill_base.specs.declared.face.Face.{Face}
 use Rattle.mill_base.specs.declared.face.Face.TheVariants.{Up, Down}
 use Rattle.mill_base.proofs.lemmas.Packs.{length-packed}
-use Rattle.card_image.specs.Sets.{CardDesign}
+use Rattle.card_image.specs.Sets.{CardDesign, CardsValue, design_by}
 use Rattle.card_image.specs.Places.{magic, hole_bytes, card_place}
 use Rattle.card_image.specs.Chains.{StandsAt, IsCard, CardStandsAt, Chain, hole_count}
-use Rattle.card_image.specs.Sets.{CardsValue}
-use Rattle.card_image.specs.inner.Kept.{head_bytes, card_bytes}
+use Rattle.card_image.specs.inner.Kept.{head_bytes, card_bytes, face_of, cards_of}
 use Rattle.card_image.proofs.Cards.{card_next, card_first, card_place_le}
-use Rattle.card_image.proofs.Complete.{one_face, one_card_set}
+use Rattle.casting_out.specs.Castings.{CastingValue}
+use Rattle.card_image.specs.Faults.{chain_fault}
+use Rattle.card_image.proofs.Complete.{one_chain, one_face, one_card_set, chain_clean}
 
 -- the head and the first n cards are written
 pub record Written (d : CardDesign) (bytes : List ℕ) (face : Face) (cards : List (List Bool)) (n : ℕ) : Type 0 where
@@ -142,3 +143,48 @@ set_of_chain d bytes face cards v chain same other =
     ap (λ (e : CardDesign). record { design = e; face = v.face; holes = v.holes }) same
     ∙ ap (λ (f : Face). record { design = d; face = f; holes = v.holes }) (one_face d bytes v.face face v.holes cards other chain)
     ∙ ap (λ (cs : List (List Bool)). record { design = d; face = face; holes = cs }) (one_card_set d bytes v.face face v.holes cards other chain)
+
+-- ---- what a writer of cards keeps
+
+pub begun : (d : CardDesign) (face : Face) (cards : List (List Bool)) (old new : List ℕ) (hooks picks : ℕ) → old ≡ [] → new ≡ old ++ head_bytes hooks picks face → hooks ≡ d.hooks → picks ≡ d.picks
+    → Written d new face cards 0
+begun d face cards old new hooks picks none is same_hooks same_picks =
+    written_head d face cards new (is ∙ ap (λ (xs : List ℕ). xs ++ head_bytes hooks picks face) none
+    ∙ ap (λ (h : ℕ). head_bytes h picks face) same_hooks ∙ ap (λ (p : ℕ). head_bytes d.hooks p face) same_picks)
+
+pub gone_on : (d : CardDesign) (bytes more : List ℕ) (face : Face) (cards : List (List Bool)) (n : ℕ) (card : List Bool) → ((pick : ℕ) → pick < d.picks → IsCard d (get_or cards pick []))
+    → n < d.picks → more ≡ bytes ++ card_bytes n card → card ≡ get_or cards n [] → Written d bytes face cards n → Written d more face cards (n + 1)
+gone_on d bytes more face cards n card each low is same before =
+    written_more d bytes more face cards n each low (is ∙ ap (λ (c : List Bool). bytes ++ card_bytes n c) same) before
+
+pub ended : (d : CardDesign) (bytes : List ℕ) (face : Face) (cards : List (List Bool)) (n : ℕ) → length cards ≡ d.picks → ((pick : ℕ) → pick < d.picks → IsCard d (get_or cards pick []))
+    → n ≡ d.picks → Written d bytes face cards n → Chain d bytes face cards
+ended d bytes face cards n count each all before = written_chain d bytes face cards count each (subst (Written d bytes face cards) all before)
+
+pub same_design : (casting : CastingValue) (n hooks picks : ℕ) (columns : List ℕ) → hooks ≡ casting.hooks → picks ≡ n → columns ≡ casting.columns
+    → record { hooks = hooks; picks = picks; columns = columns } ≡ design_by casting n
+same_design casting n hooks picks columns a b e = rw (a, b, e) refl
+
+-- the set of the chain that was written
+pub written_set : (d e : CardDesign) (bytes : List ℕ) (face : Face) (cards : List (List Bool)) (v : CardsValue) → e ≡ d → Chain d bytes face cards → v.design ≡ e → Chain e bytes v.face v.holes
+    → v ≡ record { design = d; face = face; holes = cards }
+written_set d e bytes face cards v same chain of_it other =
+    set_of_chain d bytes face cards v chain (of_it ∙ same) (subst (λ (x : CardDesign). Chain x bytes v.face v.holes) same other)
+
+pub written_clean : (d e : CardDesign) (bytes : List ℕ) (face : Face) (cards : List (List Bool)) → e ≡ d → d.hooks < 2 ^ 32 → d.picks < 2 ^ 32 → Chain d bytes face cards → chain_fault e bytes ≡ None
+written_clean d e bytes face cards same few some chain = ap (λ (x : CardDesign). chain_fault x bytes) same ∙ chain_clean d bytes face cards few some chain
+
+-- sets are the same exactly where their chains are
+pub same_sets : (d e : CardDesign) (xs ys : List ℕ) (v w : CardsValue) → record { design = d; face = face_of xs; holes = cards_of d xs } ≡ v → record { design = e; face = face_of ys; holes = cards_of e ys } ≡ w
+    → Chain d xs (face_of xs) (cards_of d xs) → Chain e ys (face_of ys) (cards_of e ys) → d ≡ e → (xs ≡ ys → v ≡ w) × (v ≡ w → xs ≡ ys)
+same_sets d e xs ys v w of_v of_w one other same = (
+  (λ is. sym of_v ∙ ap (λ (x : CardDesign). record { design = x; face = face_of xs; holes = cards_of x xs }) same
+      ∙ ap (λ (zs : List ℕ). record { design = e; face = face_of zs; holes = cards_of e zs }) is ∙ of_w),
+  λ is.
+      let all = of_v ∙ is ∙ sym of_w in
+      let faces : face_of xs ≡ face_of ys = ap (λ (x : CardsValue). x.face) all in
+      let holes : cards_of d xs ≡ cards_of e ys = ap (λ (x : CardsValue). x.holes) all in
+      one_chain e xs ys (face_of ys) (cards_of e ys)
+      (subst (λ (cs : List (List Bool)). Chain e xs (face_of ys) cs) holes (subst (λ (f : Face). Chain e xs f (cards_of d xs)) faces (subst (λ (x : CardDesign). Chain x xs (face_of xs) (cards_of d xs)) same one)))
+      other,
+)

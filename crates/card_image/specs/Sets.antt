@@ -1,6 +1,6 @@
 -- What contracts see of a set of cards, and which cards are cut and turned.
-use Rattle.std.specs.Prelude.{◌≡◌, ℕ, ◌==◌, Bool, true, false, not, ◌&&◌, List, [], length, map, slice_index_or}
-use Rattle.std.specs.List.{list_any}
+use Rattle.std.specs.Prelude.{ℕ, ◌==◌, Bool, false, not, ◌&&◌, List, length, map, slice_index, slice_index_or}
+use Rattle.mill_base.specs.Below.{any_below}
 use Rattle.mill_base.specs.Lines.{line_by}
 use Rattle.mill_base.specs.declared.face.Face.{Face}
 use Rattle.mill_base.specs.declared.face.Face.TheVariants.{Up, Down}
@@ -26,7 +26,7 @@ design_by casting picks = record { hooks = casting.hooks; picks = picks; columns
 
 -- a column hangs on the hook
 abbrev pub hangs : List ℕ → ℕ → Bool
-hangs columns hook = list_any (λ h. h == hook) columns
+hangs columns hook = any_below (λ c. slice_index columns c == hook) (length columns)
 
 -- the card has a hole at the hook
 abbrev pub hole_of : List Bool → ℕ → Bool
@@ -47,7 +47,3 @@ turned_card hooks columns card = line_by hooks (λ h. hangs columns h && not (ho
 -- a turned set has all such cards, of the other face
 abbrev pub turned_set : CastingValue → CardsValue → CardsValue
 turned_set casting set = record { design = design_by casting set.design.picks; face = other_face set.face; holes = map (turned_card casting.hooks casting.columns) set.holes }
-
--- each card has its holes at hooks of these columns alone
-abbrev pub HolesAt : List ℕ → CardsValue → Type 0
-HolesAt columns set = (pick hook : ℕ) → hole_of (slice_index_or set.holes pick []) hook ≡ true → hangs columns hook ≡ true

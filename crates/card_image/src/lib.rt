@@ -3,6 +3,7 @@
 
 mod card_fault;
 pub mod card_set;
+mod cutting;
 pub mod decoder;
 pub mod fault;
 mod holes;
