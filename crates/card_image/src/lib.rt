@@ -10,4 +10,6 @@ mod holes;
 pub mod laws;
 mod plan;
 mod so_far;
+#[cfg(test)]
+mod tests;
 mod writing;
