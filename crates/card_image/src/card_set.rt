@@ -17,8 +17,8 @@ use point_paper::bit_paper::BitPaper;
 use std::alloc::Global;
 use std::marker::Model;
 
-/// The cards of a cloth, one for each pick. They are kept as their chain, so that a set is compared, copied and written by one
-/// run over its bytes.
+/// The cards of a cloth, one for each pick, counted from 0. They are kept as their chain, so that a set is compared, copied
+/// and written by one run over its bytes. Cards and chain are formats of this project's own.
 #[derive(Drop)]
 pub struct CardSet {
     hooks: u32,
@@ -77,7 +77,8 @@ fn part(bytes: &[u8], at: usize, len: usize) -> &[u8]
 }
 
 impl CardSet {
-    /// The cards of a bit paper, for a cloth that lies face up, one for each pick.
+    /// The cards of a bit paper, for a cloth that lies face up, one for each pick: a hole for each lifted cell, at the hook
+    /// of its column.
     pub fn cut(alloc: Global, bits: &BitPaper, casting: &Casting) -> Result<CardSet, OutOfMemory>
         requires { bits.now.columns ≡ length casting.now.columns }
         ensures { IfOk result (λ set. set ≡ record { design = design_by casting.now (length bits.now.rows); face = Face.Up; holes = cards_up casting.now bits.now }) }
@@ -144,8 +145,8 @@ impl CardSet {
         self.picks
     }
 
-    /// Puts the turned card of a pick into bytes: it has a hole exactly at the hooks of the casting's columns where this card has none. It
-    /// takes no memory.
+    /// Puts the turned card of a pick into bytes: it has a hole exactly at the hooks of the casting's columns where this
+    /// card has none. It takes no memory.
     pub fn turn_card(&self, pick: u32, casting: &Casting, out: &mut [u8])
         requires pick { pick < self.now.design.picks }
         requires hooks { casting.now.hooks ≡ self.now.design.hooks }

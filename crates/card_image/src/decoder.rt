@@ -16,7 +16,7 @@ use mill_base::memory::OutOfMemory;
 use std::alloc::Global;
 use std::marker::Model;
 
-/// Reads the chain of a design from pieces of any size.
+/// Reads the chain of a design (this project's own format) from pieces of any size.
 #[derive(Drop)]
 pub struct Decoder {
     plan: Plan,
