@@ -1,19 +1,22 @@
 -- Acts of a design leave papers of the design, and its versions keep no float.
 use Rattle.std.proofs.Common.{◌≡◌, ◌*◌, ◌==◌, ◌&&◌, nat_lt, ℕ, zero, suc, ◌+◌, ◌<◌, ◌≤◌, Bool, true, false, List, [], ◌∷◌, ◌++◌, Option, Some, None, length, get_or, refl, sym, ap, subst, ◌∙◌, ⊎_elim, arith}
-use Rattle.std.specs.Prelude.{All, IfSome, slice_get, is_some, unwrap_or, if◌then◌else◌}
+use Rattle.std.specs.Prelude.{All, Contains, IfSome, slice_get, is_some, unwrap_or, if◌then◌else◌}
 use Rattle.std.specs.Option.{option_or}
 use Rattle.std.proofs.lemmas.Bool.{cases_lt}
 use Rattle.std.proofs.lemmas.List.{get_or_past}
-use Rattle.std.proofs.lemmas.List.Elements.{All-push}
+use Rattle.std.proofs.lemmas.List.Elements.{All-push, All-contains}
 use Rattle.std.proofs.lemmas.Option.{get_or_from_slice_get, slice_get_within, slice_get-get_or}
 use Rattle.mill_base.specs.declared.size.Size.{Size}
 use Rattle.mill_base.specs.Lines.{line_by}
 use Rattle.mill_base.proofs.lemmas.Lines.{length-line_by}
 use Rattle.point_paper.specs.Papers.{PaperCells, BitCells, cell_of}
 use Rattle.point_paper.proofs.lemmas.Cells.{cell_of-paper_by}
-use Rattle.strokes.specs.Cells.{MotifCells, motif_cell}
+use Rattle.strokes.specs.Cells.{MotifCells, motif_cell, no_motif}
 use Rattle.strokes.specs.Paints.{after, half_on, is_between, is_on_line, paints, size_of, stamped, steps_round}
-use Rattle.strokes.specs.Places.{HasColour}
+use Rattle.strokes.specs.Places.{HasColour, cells_of_motif, motif_of_act}
+use Rattle.strokes.specs.Spans.{AreSpansOf, IsColourOf}
+use Rattle.strokes.specs.declared.motifs.NamedMotif.{NamedMotif}
+use Rattle.point_paper.specs.declared.paper.Span.{Span}
 use Rattle.strokes.specs.declared.act.Act.{Act}
 use Rattle.strokes.specs.declared.act.Act.TheVariants.{Dot, Rect, Line, Stamp, HalfDrop, Commit}
 use Rattle.draft_model.specs.Designs.{Fits, IsPaperOf}
@@ -22,7 +25,7 @@ use Rattle.draft_model.specs.Drawdowns.{bound, cell_bound}
 use Rattle.draft_model.specs.Floats.{first_float, keeps}
 use Rattle.draft_model.specs.declared.design.Design.{Design}
 use Rattle.draft_model.specs.declared.float_run.FloatRun.{FloatRun}
-use Rattle.version_journal.specs.Journals.{ActWithMotif, History, IsActOf, begun, committed, float_kept, history, versions, versions_after}
+use Rattle.version_journal.specs.Journals.{ActWithMotif, HasColours, with_motif, History, IsActOf, begun, committed, float_kept, history, versions, versions_after}
 use Rattle.version_journal.proofs.Histories.{kept, kept_by_all, kept_by_step}
 
 -- the colour, if there is one, is one of so many
@@ -41,7 +44,7 @@ below_in : (n : ℕ) (cells : List (Option ℕ)) (k : ℕ) → All (λ cell. IfS
 below_in n cells k each = ⊎_elim (λ (h : k < length cells). each k None h)
     (λ (h : length cells ≤ k). subst (λ (cell : Option ℕ). IfSome cell (λ colour. colour < n)) (sym (get_or_past cells k None h)) tt) (cases_lt k (length cells))
 
-below_motif : (n : ℕ) (motif : MotifCells) (column pick : ℕ) → All (λ cell. IfSome cell (λ colour. colour < n)) motif.cells → IsBelow n (motif_cell motif column pick)
+below_motif : (n : ℕ) (motif : MotifCells) (column pick : ℕ) → HasColours n motif → IsBelow n (motif_cell motif column pick)
 unfolding motif_cell
 below_motif n motif column pick each = either (nat_lt column motif.columns && nat_lt pick motif.picks) where
   either : (b : Bool) → IsBelow n (if b then get_or motif.cells (pick * motif.columns + column) None else None)
@@ -49,7 +52,7 @@ below_motif n motif column pick each = either (nat_lt column motif.columns && na
   either false = tt
 
 -- what an act paints is in the book where its colours are
-painted_below : (n : ℕ) (motif : MotifCells) (size : Size) (act : Act) (c p : ℕ) → HasColour n act → All (λ cell. IfSome cell (λ colour. colour < n)) motif.cells
+painted_below : (n : ℕ) (motif : MotifCells) (size : Size) (act : Act) (c p : ℕ) → HasColour n act → HasColours n motif
     → IsBelow n (paints motif size act c p)
 painted_below n motif size (Dot colour column pick) c p h each = below_if n colour (c == column && p == pick) h
 painted_below n motif size (Rect colour c0 p0 c1 p1) c p h each = below_if n colour (is_between c0 c1 c && is_between p0 p1 p) h
@@ -135,3 +138,41 @@ pub all_free : (P : PaperCells → Type 0) (versions : List PaperCells) (opening
     → ((k : ℕ) (version : PaperCells) → 0 < k → slice_get versions k ≡ Some version → P version) → All P versions
 all_free P versions opening first here later zero d below = subst P (sym (get_or_from_slice_get versions 0 opening d first)) here
 all_free P versions opening first here later (suc k) d below = later (suc k) (get_or versions (suc k) d) (omega arith) (slice_get-get_or versions (suc k) d below)
+
+-- acts of a session whose motifs have colours of the book
+pub of_the_design : (design : Design) (motifs : List NamedMotif) (act : Act) → HasColour (length design.book) act
+    → All (λ named. HasColours (length design.book) named.motif) motifs → IsActOf design (with_motif motifs act)
+of_the_design design motifs act colour each = record { colour = colour; motif = cells act } where
+  none : HasColours (length design.book) no_motif
+  none = λ k d below. absurd (omega arith)
+
+  found : (motif : Option NamedMotif) → ((named : NamedMotif) → motif ≡ Some named → HasColours (length design.book) named.motif) → HasColours (length design.book) (cells_of_motif motif)
+  found (Some named) h = h named refl
+  found None h = none
+
+  there : (number : ℕ) → HasColours (length design.book) (cells_of_motif (slice_get motifs number))
+  there number = found (slice_get motifs number) (λ named is. subst (λ m. HasColours (length design.book) m.motif) (get_or_from_slice_get motifs number named named is)
+      (each number named (slice_get_within motifs number named is)))
+
+  cells : (act : Act) → HasColours (length design.book) (motif_of_act motifs act)
+  cells (Dot of column pick) = none
+  cells (Rect of c0 p0 c1 p1) = none
+  cells (Line of c0 p0 c1 p1) = none
+  cells (Stamp number column pick) = there number
+  cells (HalfDrop number column pick) = there number
+  cells Commit = none
+
+-- a colour that a motif has is in the book
+colour_there : (n : ℕ) (cells : List (Option ℕ)) (colour : ℕ) → All (λ cell. IfSome cell (λ colour. colour < n)) cells → Contains cells (Some colour) → colour < n
+colour_there n cells colour each has = All-contains (λ (cell : Option ℕ). IfSome cell (λ colour. colour < n)) cells (Some colour) each has
+
+span_below : (n : ℕ) (motif : MotifCells) (act : Act) (colour : ℕ) → HasColour n act → HasColours n motif → IsColourOf motif act colour → colour < n
+span_below n motif (Dot of column pick) colour h each is = subst (λ x. x < n) (sym is) h
+span_below n motif (Rect of c0 p0 c1 p1) colour h each is = subst (λ x. x < n) (sym is) h
+span_below n motif (Line of c0 p0 c1 p1) colour h each is = subst (λ x. x < n) (sym is) h
+span_below n motif (Stamp number column pick) colour h each is = colour_there n motif.cells colour each is
+span_below n motif (HalfDrop number column pick) colour h each is = colour_there n motif.cells colour each is
+span_below n motif Commit colour h each is = absurd is
+
+pub spans_below : (design : Design) (act : ActWithMotif) (size : Size) (spans : List Span) → IsActOf design act → AreSpansOf act.motif size act.act spans → All (λ span. span.colour < length design.book) spans
+spans_below design act size spans of are k d below = span_below (length design.book) act.motif act.act (get_or spans k d).colour of.colour of.motif (are.colours k d below)

@@ -26,10 +26,14 @@ with_motif motifs act = record { act = act; motif = motif_of_act motifs act }
 abbrev pub with_motifs : List NamedMotif → List Act → List ActWithMotif
 with_motifs motifs acts = map (with_motif motifs) acts
 
+-- the colours of a motif's cells are among so many
+abbrev pub HasColours : ℕ → MotifCells → Type 0
+HasColours colours motif = All (λ cell. IfSome cell (λ colour. colour < colours)) motif.cells
+
 -- the colours that the act may paint are in the book
 pub record IsActOf (design : Design) (act : ActWithMotif) : Type 0 where
   pub colour : HasColour (length design.book) act.act
-  pub motif : All (λ cell. IfSome cell (λ colour. colour < length design.book)) act.motif.cells
+  pub motif : HasColours (length design.book) act.motif
 
 -- an act is a commit, or it paints
 abbrev pub is_commit : Act → Bool

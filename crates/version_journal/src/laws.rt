@@ -2,14 +2,20 @@
 //! function without result.
 ghost use Rattle.std.specs.Prelude.{◌≡◌, ◌+◌, ◌<◌, ◌≤◌, ℕ, false, true, List, [], ◌∷◌, ◌++◌, length, take, count_by, slice_get, Some, None, All};
 ghost use Rattle.point_paper.specs.Papers.{PaperCells};
+ghost use Rattle.point_paper.specs.declared.paper.Span.{Span};
+ghost use Rattle.mill_base.specs.declared.size.Size.{Size};
 ghost use Rattle.strokes.specs.Paints.{after};
+ghost use Rattle.strokes.specs.Places.{HasColour};
+ghost use Rattle.strokes.specs.Spans.{AreSpansOf};
+ghost use Rattle.strokes.specs.declared.act.Act.{Act};
+ghost use Rattle.strokes.specs.declared.motifs.NamedMotif.{NamedMotif};
 ghost use Rattle.draft_model.specs.Designs.{Fits, IsPaperOf};
 ghost use Rattle.draft_model.specs.Drawdowns.{bound};
 ghost use Rattle.draft_model.specs.Floats.{keeps};
 ghost use Rattle.draft_model.specs.declared.design.Design.{Design};
 ghost use Rattle.draft_model.specs.declared.float_run.FloatRun.{FloatRun};
 ghost use Rattle.version_journal.specs.Entries.{is_accepted};
-ghost use Rattle.version_journal.specs.Journals.{ActWithMotif, IsActOf, float_kept, gone_on, history, is_commit, paper_after, replies, step, versions};
+ghost use Rattle.version_journal.specs.Journals.{ActWithMotif, HasColours, IsActOf, float_kept, gone_on, history, is_commit, paper_after, replies, step, versions, with_motif};
 ghost use Rattle.version_journal.specs.declared.entry.Reply.TheVariants.{Painted, Accepted, Refused};
 
 /// The acts of two lists, one list after the other, are those of the first and then those of the second from where the first has come
@@ -88,4 +94,13 @@ pub fn versions_are_papers_of_the_design()
         → IsPaperOf design (paper_after design opening acts) }
     ensures versions { (design : Design) (opening : PaperCells) (acts : List ActWithMotif) → IsPaperOf design opening → All (IsActOf design) acts
         → All (IsPaperOf design) (versions design opening acts) }
+{}
+
+/// Where the colour that an act names and those of all motifs are in the book, the act with its motif is one of the design, and so is
+/// the colour of each span that paints it.
+pub fn acts_of_the_design_paint_colours_of_its_book()
+    ensures acts { (design : Design) (motifs : List NamedMotif) (act : Act) → HasColour (length design.book) act
+        → All (λ named. HasColours (length design.book) named.motif) motifs → IsActOf design (with_motif motifs act) }
+    ensures spans { (design : Design) (act : ActWithMotif) (size : Size) (spans : List Span) → IsActOf design act → AreSpansOf act.motif size act.act spans
+        → All (λ span. span.colour < length design.book) spans }
 {}

@@ -5,3 +5,5 @@ pub mod entry;
 pub mod journal;
 pub mod laws;
 pub mod run_log;
+#[cfg(test)]
+mod tests;
