@@ -124,15 +124,20 @@ later_free design opening h keeps (suc j) version some is =
     subst (λ v. (float_kept design v ≡ None) × (v.picks ≡ opening.picks)) (get_or_from_slice_get (opening ∷ keeps.later) (suc j) version version there)
     (keeps.sound j version (omega arith))
 
--- a paper of the opening's size whose first float is none keeps none
-pub none_kept : ((design : Design) (bits : BitCells) → 0 < length design.tie.ends → 0 < length bits.rows → keeps design bits ≡ is_some (first_float design bits))
-    → (design : Design) (opening version : PaperCells) → Fits design → IsPaperOf design opening → (float_kept design version ≡ None) × (version.picks ≡ opening.picks)
-    → keeps design (bound design version) ≡ false
+-- that first floats are told exactly where a cloth keeps one
+abbrev pub AreTold : Type 0
+AreTold = (design : Design) (bits : BitCells) → 0 < length design.tie.ends → 0 < length bits.rows → keeps design bits ≡ is_some (first_float design bits)
+
+pub told_where_kept : AreTold → (design : Design) (paper : PaperCells) → Fits design → paper.picks ≡ design.size.picks → keeps design (bound design paper) ≡ is_some (float_kept design paper)
 unfolding bound
-none_kept told design opening version fits of free =
-    told design (bound design version) (omega (arith, fits.ends.0))
-    (omega (arith, length-line_by version.picks (λ pick. line_by version.columns (λ column. cell_bound design (raw design.book version) column pick)), free.1, of.picks, fits.picks.0))
-    ∙ ap is_some free.0
+told_where_kept told design paper fits picks =
+    told design (bound design paper) (omega (arith, fits.ends.0))
+    (omega (arith, length-line_by paper.picks (λ pick. line_by paper.columns (λ column. cell_bound design (raw design.book paper) column pick)), picks, fits.picks.0))
+
+-- a paper of the opening's size whose first float is none keeps none
+pub none_kept : AreTold → (design : Design) (opening version : PaperCells) → Fits design → IsPaperOf design opening → (float_kept design version ≡ None) × (version.picks ≡ opening.picks)
+    → keeps design (bound design version) ≡ false
+none_kept told design opening version fits of free = told_where_kept told design version fits (free.1 ∙ of.picks) ∙ ap is_some free.0
 
 pub all_free : (P : PaperCells → Type 0) (versions : List PaperCells) (opening : PaperCells) → slice_get versions 0 ≡ Some opening → P opening
     → ((k : ℕ) (version : PaperCells) → 0 < k → slice_get versions k ≡ Some version → P version) → All P versions

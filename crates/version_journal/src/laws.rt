@@ -1,6 +1,6 @@
 //! Laws of replies and versions, for every design, every paper and every list of acts. They compute nothing: each is the contract of a
 //! function without result.
-ghost use Rattle.std.specs.Prelude.{◌≡◌, ◌+◌, ◌<◌, ◌≤◌, ℕ, false, true, List, [], ◌∷◌, ◌++◌, length, take, count_by, slice_get, Some, None, All};
+ghost use Rattle.std.specs.Prelude.{◌≡◌, ◌+◌, ◌<◌, ◌≤◌, ℕ, false, true, List, [], ◌∷◌, ◌++◌, length, take, count_by, slice_get, Some, None, is_some, All};
 ghost use Rattle.point_paper.specs.Papers.{PaperCells};
 ghost use Rattle.point_paper.specs.declared.paper.Span.{Span};
 ghost use Rattle.mill_base.specs.declared.size.Size.{Size};
@@ -65,6 +65,13 @@ pub fn a_commit_with_a_float_is_refused()
         → float_kept design (paper_after design opening acts) ≡ Some float
         → versions design opening (acts ++ act ∷ []) ≡ versions design opening acts }
 {}
+
+/// The float that refuses a commit is there exactly where the cloth of the bound paper keeps one over its limit.
+pub fn a_commit_is_refused_where_a_float_is_kept()
+    ensures { (design : Design) (paper : PaperCells) → Fits design → IsPaperOf design paper → is_some (float_kept design paper) ≡ keeps design (bound design paper) }
+{
+    draft_model::laws::a_cloth_keeps_a_float_where_one_is_told();
+}
 
 /// Each act has one reply.
 pub fn each_act_has_a_reply()
