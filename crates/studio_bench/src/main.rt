@@ -2,11 +2,13 @@
 //! depends on what was done. It takes no time itself.
 #![tactic(auto)]
 
+mod cards;
 mod images;
 mod lines;
 mod marks;
 mod random;
 mod tied;
+mod tiles;
 mod workload;
 
 use crate::workload::Workload;

@@ -31,7 +31,8 @@ impl Form {
         }
     }
 
-    fn tie(self, alloc: Global) -> Option<Tie>
+    /// The tie of the form; `None` where memory is refused.
+    pub fn tie(self, alloc: Global) -> Option<Tie>
         ensures { IfSome result (λ tie. tie.columns ≡ MAX_COLUMNS) }
     {
         let straight = whole(SectionKind::Straight, 4);

@@ -1,9 +1,11 @@
 //! The pieces of work by their names.
 
+use crate::cards::{Cards, Mounting, copy_bytes};
 use crate::images::{Pixels, Stored};
 use crate::lines::FloatLine;
 use crate::marks::Marks;
 use crate::tied::{Form, Tied};
+use crate::tiles::{Tiles, bind};
 use std::alloc::Global;
 
 /// A piece of work. Each whole-line call has a plain one beside it, which does the same cell by cell.
@@ -26,6 +28,18 @@ pub enum Workload {
     ImageWrite(Pixels),
     /// The pixels of an image are copied.
     PixelCopy(Pixels),
+    /// All cards of a bit paper are cut, told as a chain, read from one, or lifted.
+    Cut(Mounting),
+    Encode(Mounting),
+    Feed(Mounting),
+    Lift(Mounting),
+    /// So many bytes are copied.
+    ByteCopy(u32),
+    /// The grid of a paper's tiles is built, or the near tiles of one tile are marked.
+    Grid(Tiles),
+    Mark(Tiles),
+    /// A blank paper is bound from scratch.
+    Bind,
 }
 
 impl Workload {
@@ -42,6 +56,14 @@ impl Workload {
             "image-read" => Some(Workload::ImageRead(Pixels::named(size)?)),
             "image-write" => Some(Workload::ImageWrite(Pixels::named(size)?)),
             "pixel-copy" => Some(Workload::PixelCopy(Pixels::named(size)?)),
+            "cut" => Some(Workload::Cut(Mounting::named(size)?)),
+            "encode" => Some(Workload::Encode(Mounting::named(size)?)),
+            "feed" => Some(Workload::Feed(Mounting::named(size)?)),
+            "lift" => Some(Workload::Lift(Mounting::named(size)?)),
+            "byte-copy" => Some(Workload::ByteCopy(mill_base::words::number(size.as_bytes())?)),
+            "grid" => Some(Workload::Grid(Tiles::named(size)?)),
+            "mark" => Some(Workload::Mark(Tiles::named(size)?)),
+            "bind" => Some(Workload::Bind),
             _ => None,
         }
     }
@@ -60,6 +82,14 @@ impl Workload {
             Workload::ImageRead(pixels) => Stored::new(alloc, pixels)?.read(alloc, rounds),
             Workload::ImageWrite(pixels) => Stored::new(alloc, pixels)?.write(alloc, rounds),
             Workload::PixelCopy(pixels) => Stored::new(alloc, pixels)?.copy(alloc, rounds),
+            Workload::Cut(mounting) => Cards::new(alloc, mounting)?.cut(alloc, rounds),
+            Workload::Encode(mounting) => Cards::new(alloc, mounting)?.encode(rounds),
+            Workload::Feed(mounting) => Cards::new(alloc, mounting)?.feed(alloc, rounds),
+            Workload::Lift(mounting) => Cards::new(alloc, mounting)?.lift(alloc, rounds),
+            Workload::ByteCopy(bytes) => copy_bytes(alloc, bytes, rounds),
+            Workload::Grid(tiles) => tiles.build(alloc, rounds),
+            Workload::Mark(tiles) => tiles.mark(alloc, rounds),
+            Workload::Bind => bind(alloc, rounds),
         }
     }
 }
