@@ -4,3 +4,5 @@
 mod columns;
 pub mod laws;
 pub mod marks;
+#[cfg(test)]
+mod tests;
