@@ -1,12 +1,77 @@
-//! Sets of sixteen tiles, and of as many tiles as a paper can have.
-ghost use Rattle.std.specs.Prelude.{◌<◌};
+//! Sets of the sixteen tiles of a small paper, told by hand, and of as many tiles as a paper can have.
+ghost use Rattle.std.specs.Prelude.{◌≡◌, ◌<◌, length};
+ghost use Rattle.tile_grid.specs.Tiles.{tiles as tiles_of};
 
 use crate::marks::Marks;
+use harness_ties::fault::TieFault;
+use harness_ties::tie::Tie;
 use mill_base::memory::OutOfMemory;
+use mill_base::size::Size;
 use std::alloc::Global;
 use std::test::Fail;
+use tile_grid::grid::Grid;
 
 const TILES: u32 = 16;
+
+/// Sixteen columns and picks in tiles of side 4, under the straight tie, with both limits 1.
+fn small_grid(alloc: Global) -> Result<Grid, TieFault> {
+    let size = Size {
+        columns: 16,
+        picks: 16,
+    };
+    let tie = Tie::build(alloc, &[], size.columns)?;
+    let grid = Grid::build(alloc, size, 4, &tie, 1, 1)?;
+    Ok(grid)
+}
+
+/// The tiles of a set of sixteen, rising.
+fn members(alloc: Global, marks: &Marks) -> Result<Vec<u32>, OutOfMemory>
+    requires { length marks.now ≡ TILES }
+{
+    let mut members = Vec::new(alloc);
+    for tile in 0..TILES {
+        if marks.has(tile) {
+            members.push(tile)?;
+        }
+    }
+    Ok(members)
+}
+
+/// Marks the near tiles of each of some tiles.
+fn mark_all(grid: &Grid, marks: &mut Marks, tiles: &[u32])
+    requires grid { tiles_of grid.now ≡ TILES }
+    requires marks { length marks.old ≡ TILES }
+    ensures { length marks.new ≡ TILES }
+{
+    for tile in tiles {
+        if *tile < TILES {
+            marks.mark_near(grid, *tile);
+        }
+    }
+}
+
+fn near(alloc: Global, grid: &Grid, tiles: &[u32]) -> Result<Vec<u32>, OutOfMemory>
+    requires { tiles_of grid.now ≡ TILES }
+{
+    let mut marks = Marks::new(alloc, TILES)?;
+    mark_all(grid, &mut marks, tiles);
+    members(alloc, &marks)
+}
+
+#[test]
+fn a_painted_cell_marks_the_near_tiles_and_those_near_them(rt: HostRuntime) -> Result<(), Fail> {
+    let alloc = rt.alloc();
+    let grid = small_grid(alloc)?;
+    assert!(rt; grid.tiles() == TILES);
+    let bound = near(alloc, &grid, &[5])?;
+    assert_eq!(rt; bound.as_slice(), [1, 4, 5, 6, 9].as_slice());
+    let checked = near(alloc, &grid, &bound)?;
+    assert_eq!(rt;
+        checked.as_slice(),
+        [0, 1, 2, 4, 5, 6, 7, 8, 9, 10, 13].as_slice()
+    );
+    Ok(())
+}
 
 #[test]
 fn next_goes_round_the_set(rt: HostRuntime) -> Result<(), Fail> {
