@@ -3,3 +3,5 @@
 
 pub mod laws;
 pub mod machine;
+#[cfg(test)]
+mod tests;

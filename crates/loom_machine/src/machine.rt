@@ -11,7 +11,8 @@ use mill_base::memory::OutOfMemory;
 use std::alloc::Global;
 use std::marker::Model;
 
-/// Lifts the ends of a loom by cards: a hole lifts its hook, a hook the column that hangs on it, and a column all of its ends.
+/// Lifts the ends of a loom by cards: a hole lifts its hook, a hook the column that hangs on it, and a column all of
+/// its ends. It keeps the rows of hooks and columns in which it works.
 #[derive(Drop)]
 pub struct Machine {
     tie: Tie,
@@ -51,14 +52,16 @@ impl Machine {
         })
     }
 
-    /// Lifts by a packed card: each end is true exactly where the card has a hole at the hook of the end's column. It takes no memory.
+    /// Lifts by a packed card: each end is true exactly where the card has a hole at the hook of the end's column. It
+    /// takes no memory.
     pub fn pick(&mut self, card: &[u8], out: &mut BitRow)
         requires card { length card.now ≡ (self.old.casting.hooks + 7) / 8 }
         requires out { length out.old ≡ length self.old.tie.ends }
         ensures same { self.new ≡ self.old }
         ensures len { length out.new ≡ length self.old.tie.ends }
         ensures row { out.new ≡ lift self.old.tie.ends self.old.casting (holes_in self.old.casting.hooks card.now) }
-        ensures packed { (holes : List Bool) → length holes ≡ self.old.casting.hooks → card.now ≡ packed holes → out.new ≡ lift self.old.tie.ends self.old.casting holes }
+        ensures packed { (holes : List Bool) → length holes ≡ self.old.casting.hooks → card.now ≡ packed holes
+            → out.new ≡ lift self.old.tie.ends self.old.casting holes }
     {
         carry(
             &self.tie,
@@ -90,7 +93,8 @@ fn carry(
     ensures columns { length columns.new ≡ length casting.now.columns }
     ensures len { length out.new ≡ length tie.now.ends }
     ensures row { out.new ≡ lift tie.now.ends casting.now (holes_in casting.now.hooks card.now) }
-    ensures packed { (holes : List Bool) → length holes ≡ casting.now.hooks → card.now ≡ packed holes → out.new ≡ lift tie.now.ends casting.now holes }
+    ensures packed { (holes : List Bool) → length holes ≡ casting.now.hooks → card.now ≡ packed holes
+        → out.new ≡ lift tie.now.ends casting.now holes }
 {
     hooks.unpack(card);
     casting.to_columns(hooks, columns);
