@@ -38,4 +38,5 @@ pub record Chain (d : CardDesign) (bytes : List ℕ) (face : Face) (cards : List
   pub picks : StandsAt bytes 8 (big_bytes 4 d.picks)
   pub count : length cards ≡ d.picks
   pub each : (pick : ℕ) → pick < d.picks → IsCard d (slice_index_or cards pick [])
-  pub stand : (pick : ℕ) → pick < d.picks → CardStandsAt bytes (card_place d.hooks pick) pick (slice_index_or cards pick [])
+  pub stand : (pick : ℕ) → pick < d.picks
+      → CardStandsAt bytes (card_place d.hooks pick) pick (slice_index_or cards pick [])

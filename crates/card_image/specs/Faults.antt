@@ -53,7 +53,9 @@ holes_fault hooks columns pick written hole = if has_pad hooks hole then Some (P
 unfoldable pub card_fault : ℕ → List ℕ → List ℕ → ℕ → Option ChainFault
 card_fault hooks columns bytes pick = option_or
     (once bytes (card_place hooks pick + 4) (number_fault pick (number_at bytes (card_place hooks pick))))
-    (once bytes (card_place hooks (suc pick)) (holes_fault hooks columns pick (number_at bytes (card_place hooks pick + 4)) (hole_at bytes (card_place hooks pick + 8))))
+    (once bytes (card_place hooks (suc pick))
+    (holes_fault hooks columns pick (number_at bytes (card_place hooks pick + 4))
+    (hole_at bytes (card_place hooks pick + 8))))
 
 -- the faults before the first card
 unfoldable pub head_fault : ℕ → ℕ → List ℕ → Option ChainFault
@@ -67,8 +69,10 @@ excess_fault d bytes = once bytes (chain_length d + 1) (Some (Excess (chain_leng
 
 -- the first fault that the bytes so far show: the parts follow in the order of the bytes that show them
 unfoldable pub chain_fault : CardDesign → List ℕ → Option ChainFault
-chain_fault d bytes = option_or (head_fault d.hooks d.picks bytes) (option_or (first_of (card_fault d.hooks d.columns bytes) d.picks) (excess_fault d bytes))
+chain_fault d bytes = option_or (head_fault d.hooks d.picks bytes)
+    (option_or (first_of (card_fault d.hooks d.columns bytes) d.picks) (excess_fault d bytes))
 
 -- the fault of a chain that has ended: the first one, or else that it is too short
 unfoldable pub end_fault : CardDesign → List ℕ → Option ChainFault
-end_fault d bytes = option_or (chain_fault d bytes) (if nat_lt (length bytes) (chain_length d) then Some (Truncated (chain_length d) (length bytes)) else None)
+end_fault d bytes = option_or (chain_fault d bytes)
+    (if nat_lt (length bytes) (chain_length d) then Some (Truncated (chain_length d) (length bytes)) else None)

@@ -15,8 +15,8 @@ magic Down = 74 ∷ 67 ∷ 67 ∷ 50 ∷ []
 abbrev pub hole_bytes : ℕ → ℕ
 hole_bytes hooks = (hooks + 7) / 8
 
--- where the card of a pick begins: behind the magic, the hooks and the picks come the cards, each with its number and its
--- count of holes, of four bytes each, and its bytes of holes
+-- where the card of a pick begins: behind the magic, the hooks and the picks come the cards, each with its number and
+-- its count of holes, of four bytes each, and its bytes of holes
 unfoldable pub card_place : ℕ → ℕ → ℕ
 card_place hooks pick = 12 + pick * (8 + hole_bytes hooks)
 

@@ -46,4 +46,8 @@ turned_card hooks columns card = line_by hooks (λ h. hangs columns h && not (ho
 
 -- a turned set has all such cards, of the other face
 abbrev pub turned_set : CastingValue → CardsValue → CardsValue
-turned_set casting set = record { design = design_by casting set.design.picks; face = other_face set.face; holes = map (turned_card casting.hooks casting.columns) set.holes }
+turned_set casting set = record {
+  design = design_by casting set.design.picks;
+  face = other_face set.face;
+  holes = map (turned_card casting.hooks casting.columns) set.holes;
+}

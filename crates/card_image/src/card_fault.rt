@@ -112,7 +112,8 @@ fn number_fault(pick: u32, bytes: &[u8], at: usize) -> Option<ChainFault>
 fn whole_fault(plan: &Plan, pick: u32, bytes: &[u8], at: usize) -> Option<ChainFault>
     requires { at < 2 ^ 63 }
     ensures { result ≡ once bytes.now (at + (8 + hole_bytes plan.now.hooks))
-        (fault_of_holes plan.now.hooks plan.now.columns.items pick (number_at bytes.now (at + 4)) (hole_at bytes.now (at + 8))) }
+        (fault_of_holes plan.now.hooks plan.now.columns.items pick (number_at bytes.now (at + 4))
+        (hole_at bytes.now (at + 8))) }
 {
     let size = (plan.hooks as usize + 7) / 8;
     if bytes.len() < at + (8 + size) {

@@ -17,8 +17,8 @@ use point_paper::bit_paper::BitPaper;
 use std::alloc::Global;
 use std::marker::Model;
 
-/// The cards of a cloth, one for each pick, counted from 0. They are kept as their chain, so that a set is compared, copied
-/// and written by one run over its bytes. Cards and chain are formats of this project's own.
+/// The cards of a cloth, one for each pick, counted from 0. They are kept as their chain, so that a set is compared,
+/// copied and written by one run over its bytes. Cards and chain are formats of this project's own.
 #[derive(Drop)]
 pub struct CardSet {
     hooks: u32,
@@ -41,7 +41,8 @@ impl Model for CardSet {
     } };
 
     ghost invariant = { λ c. Chain (record { hooks = c.hooks; picks = c.picks; columns = c.columns.items }) c.chain.items
-        (face_of c.chain.items) (cards_of (record { hooks = c.hooks; picks = c.picks; columns = c.columns.items }) c.chain.items) };
+        (face_of c.chain.items)
+        (cards_of (record { hooks = c.hooks; picks = c.picks; columns = c.columns.items }) c.chain.items) };
 }
 
 fn face_byte(chain: &[u8]) -> Face
@@ -77,11 +78,16 @@ fn part(bytes: &[u8], at: usize, len: usize) -> &[u8]
 }
 
 impl CardSet {
-    /// The cards of a bit paper, for a cloth that lies face up, one for each pick: a hole for each lifted cell, at the hook
-    /// of its column.
+    /// The cards of a bit paper, for a cloth that lies face up, one for each pick: a hole for each lifted cell, at the
+    /// hook of its column.
     pub fn cut(alloc: Global, bits: &BitPaper, casting: &Casting) -> Result<CardSet, OutOfMemory>
         requires { bits.now.columns ≡ length casting.now.columns }
-        ensures { IfOk result (λ set. set ≡ record { design = design_by casting.now (length bits.now.rows); face = Face.Up; holes = cards_up casting.now bits.now }) }
+        ensures { IfOk result (λ set. set
+            ≡ record {
+              design = design_by casting.now (length bits.now.rows);
+              face = Face.Up;
+              holes = cards_up casting.now bits.now;
+            }) }
     {
         let chain = cut_chain(alloc, bits, casting)?;
         let columns = Vec::from_slice(alloc, casting.hooks_of_columns())?;
@@ -93,7 +99,8 @@ impl CardSet {
         requires whole { length chain.items ≡ card_place hooks picks }
         requires clean { chain_fault (record { hooks = hooks; picks = picks; columns = columns.items }) chain.items ≡ None }
         ensures design { result.design ≡ record { hooks = hooks; picks = picks; columns = columns.items } }
-        ensures chain { Chain (record { hooks = hooks; picks = picks; columns = columns.items }) chain.items result.face result.holes }
+        ensures chain { Chain (record { hooks = hooks; picks = picks; columns = columns.items }) chain.items
+            result.face result.holes }
     {
         know_bytes(&chain);
         CardSet {
@@ -145,13 +152,14 @@ impl CardSet {
         self.picks
     }
 
-    /// Puts the turned card of a pick into bytes: it has a hole exactly at the hooks of the casting's columns where this
-    /// card has none. It takes no memory.
+    /// Puts the turned card of a pick into bytes: it has a hole exactly at the hooks of the casting's columns where
+    /// this card has none. It takes no memory.
     pub fn turn_card(&self, pick: u32, casting: &Casting, out: &mut [u8])
         requires pick { pick < self.now.design.picks }
         requires hooks { casting.now.hooks ≡ self.now.design.hooks }
         requires room { length out.old ≡ hole_bytes self.now.design.hooks }
-        ensures { out.new ≡ packed (turned_card casting.now.hooks casting.now.columns (slice_index_or self.now.holes pick [])) }
+        ensures { out.new
+            ≡ packed (turned_card casting.now.hooks casting.now.columns (slice_index_or self.now.holes pick [])) }
     {
         turn(self.card(pick), casting, out);
     }
@@ -200,7 +208,8 @@ impl CardSet {
 fn turn(card: &[u8], casting: &Casting, out: &mut [u8])
     requires card { length card.now ≡ hole_bytes casting.now.hooks }
     requires room { length out.old ≡ hole_bytes casting.now.hooks }
-    ensures { (row : List Bool) → length row ≡ casting.now.hooks → card.now ≡ packed row → out.new ≡ packed (turned_card casting.now.hooks casting.now.columns row) }
+    ensures { (row : List Bool) → length row ≡ casting.now.hooks → card.now ≡ packed row
+        → out.new ≡ packed (turned_card casting.now.hooks casting.now.columns row) }
 {
     mark_hooks(casting.hooks(), casting.hooks_of_columns(), out);
     clear_holes(out, card);

@@ -23,7 +23,8 @@ pub fn picks_of(bits: &BitPaper) -> u32
 /// The chain of the face-up cards of a bit paper.
 pub fn cut_chain(alloc: Global, bits: &BitPaper, casting: &Casting) -> Result<Vec<u8>, OutOfMemory>
     requires { bits.now.columns ≡ length casting.now.columns }
-    ensures { IfOk result (λ v. Chain (design_by casting.now (length bits.now.rows)) v.items Face.Up (cards_up casting.now bits.now)) }
+    ensures { IfOk result
+        (λ v. Chain (design_by casting.now (length bits.now.rows)) v.items Face.Up (cards_up casting.now bits.now)) }
 {
     casting_out::laws::a_card_is_a_row_on_the_hooks();
     casting_out::laws::columns_and_hooks_match();

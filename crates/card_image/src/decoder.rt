@@ -88,7 +88,8 @@ impl Decoder {
     /// Takes the next piece, and tells the first fault that the bytes so far show. It takes no memory.
     pub fn feed(&mut self, piece: &[u8]) -> Result<(), ChainFault>
         ensures design { self.new.design ≡ self.old.design }
-        ensures answer { (fed : List ℕ) → WasFed self.old fed → result ≡ told_of (chain_fault self.old.design (fed ++ piece.now)) }
+        ensures answer { (fed : List ℕ) → WasFed self.old fed
+            → result ≡ told_of (chain_fault self.old.design (fed ++ piece.now)) }
         ensures fed { (fed : List ℕ) → WasFed self.old fed → WasFed self.new (fed ++ piece.now) }
     {
         if let Some(fault) = self.fault {
@@ -100,7 +101,8 @@ impl Decoder {
 
     /// The cards of the chain that was fed, or its first fault. It takes no memory.
     pub fn finish(self) -> Result<CardSet, ChainFault>
-        ensures cards { (fed : List ℕ) → WasFed self fed → IfOk result (λ set. (set.design ≡ self.design) × Chain self.design fed set.face set.holes) }
+        ensures cards { (fed : List ℕ) → WasFed self fed
+            → IfOk result (λ set. (set.design ≡ self.design) × Chain self.design fed set.face set.holes) }
         ensures fault { (fed : List ℕ) → WasFed self fed → IfErr result (λ f. end_fault self.design fed ≡ Some f) }
     {
         if let Some(fault) = self.fault {

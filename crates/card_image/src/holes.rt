@@ -95,7 +95,8 @@ fn lies_within(word: u64, mask: u64) -> bool
 pub fn count_within(holes: &[u8], mask: &[u8]) -> Option<u64>
     requires { length holes.now < 2 ^ 60 }
     ensures count { IfSome result (λ n. n ≡ count_below (hole_at holes.now 0) (8 * length holes.now)) }
-    ensures within { IfSome result (λ n. (h : ℕ) → h < 8 * length holes.now → hole_at holes.now 0 h ≡ true → hole_at mask.now 0 h ≡ true) }
+    ensures within { IfSome result (λ n. (h : ℕ) → h < 8 * length holes.now → hole_at holes.now 0 h ≡ true
+        → hole_at mask.now 0 h ≡ true) }
 {
     let mut count = 0;
     for index in 0..(holes.len() + 7) / 8 {

@@ -12,7 +12,8 @@ ghost use Rattle.card_image.specs.Chains.{Chain};
 
 /// A chain has no fault: so it is read to its end, and what has a fault is no chain.
 pub fn chains_have_no_fault()
-    ensures { (d : CardDesign) (bytes : List ℕ) (face : Face) (cards : List (List Bool)) → d.hooks < 2 ^ 32 → d.picks < 2 ^ 32 → Chain d bytes face cards
+    ensures { (d : CardDesign) (bytes : List ℕ) (face : Face) (cards : List (List Bool)) → d.hooks < 2 ^ 32
+        → d.picks < 2 ^ 32 → Chain d bytes face cards
         → end_fault d bytes ≡ None }
 {}
 
@@ -24,18 +25,22 @@ pub fn bytes_without_a_fault_are_a_chain()
 
 /// A fault of the first bytes is the fault of all: more bytes change no fault.
 pub fn faults_stay()
-    ensures { (d : CardDesign) (first more : List ℕ) (fault : ChainFault) → chain_fault d first ≡ Some fault → chain_fault d (first ++ more) ≡ Some fault }
+    ensures { (d : CardDesign) (first more : List ℕ) (fault : ChainFault) → chain_fault d first ≡ Some fault
+        → chain_fault d (first ++ more) ≡ Some fault }
 {}
 
 /// A card set with its face has one chain.
 pub fn cards_have_one_chain()
-    ensures { (d : CardDesign) (one other : List ℕ) (face : Face) (cards : List (List Bool)) → Chain d one face cards → Chain d other face cards → one ≡ other }
+    ensures { (d : CardDesign) (one other : List ℕ) (face : Face) (cards : List (List Bool))
+        → Chain d one face cards → Chain d other face cards → one ≡ other }
 {}
 
 /// A chain has one face and one card set.
 pub fn a_chain_has_one_card_set()
-    ensures face { (d : CardDesign) (bytes : List ℕ) (one other : Face) (cards more : List (List Bool)) → Chain d bytes one cards → Chain d bytes other more → one ≡ other }
-    ensures cards { (d : CardDesign) (bytes : List ℕ) (one other : Face) (cards more : List (List Bool)) → Chain d bytes one cards → Chain d bytes other more → cards ≡ more }
+    ensures face { (d : CardDesign) (bytes : List ℕ) (one other : Face) (cards more : List (List Bool))
+        → Chain d bytes one cards → Chain d bytes other more → one ≡ other }
+    ensures cards { (d : CardDesign) (bytes : List ℕ) (one other : Face) (cards more : List (List Bool))
+        → Chain d bytes one cards → Chain d bytes other more → cards ≡ more }
 {}
 
 /// The cards that are cut of a paper are one for each pick, each that of the pick.
@@ -48,9 +53,11 @@ pub fn cut_cards_are_those_of_the_picks()
 /// A card that is turned is the card of the same pick for a cloth that lies on its other face.
 pub fn turned_cards_are_those_of_the_other_face()
     ensures row { (casting : CastingValue) (face : Face) (row : List Bool) → IsCasting casting
-        → turned_card casting.hooks casting.columns (card_of_row casting.hooks casting.columns face row) ≡ card_of_row casting.hooks casting.columns (other_face face) row }
+        → turned_card casting.hooks casting.columns (card_of_row casting.hooks casting.columns face row)
+        ≡ card_of_row casting.hooks casting.columns (other_face face) row }
     ensures pick { (casting : CastingValue) (bits : BitCells) (face : Face) (pick : ℕ) → IsCasting casting
-        → turned_card casting.hooks casting.columns (card casting bits face pick) ≡ card casting bits (other_face face) pick }
+        → turned_card casting.hooks casting.columns (card casting bits face pick)
+        ≡ card casting bits (other_face face) pick }
 {
     casting_out::laws::columns_and_hooks_match();
     casting_out::laws::holes_are_cells();

@@ -24,7 +24,8 @@ pub struct Plan {
 impl Plan {
     /// The plan of the cards of so many picks.
     pub fn new(alloc: Global, casting: &Casting, picks: u32) -> Result<Plan, OutOfMemory>
-        ensures { IfOk result (λ p. record { hooks = p.hooks; picks = p.picks; columns = p.columns.items } ≡ design_by casting.now picks) }
+        ensures { IfOk result (λ p. record { hooks = p.hooks; picks = p.picks; columns = p.columns.items }
+            ≡ design_by casting.now picks) }
     {
         let hooks = casting.hooks();
         let columns = Vec::from_slice(alloc, casting.hooks_of_columns())?;

@@ -93,8 +93,8 @@ fn cards_in(hooks: usize, picks: u32, len: usize) -> u32
     ((len - 12) / (8 + (hooks + 7) / 8)).min(picks as usize) as u32
 }
 
-/// The first fault of the bytes so far, which are no more than a chain, where the first `from` of them show none. The cards
-/// that were there whole are not looked at again.
+/// The first fault of the bytes so far, which are no more than a chain, where the first `from` of them show none. The
+/// cards that were there whole are not looked at again.
 pub fn fault_past(plan: &Plan, bytes: &[u8], from: usize) -> Option<ChainFault>
     requires room { chain_length (design_of plan.now) < 2 ^ 62 }
     requires from { from ≤ length bytes.now }

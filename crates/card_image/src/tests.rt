@@ -162,8 +162,8 @@ fn each_fault_is_told_at_the_byte_that_shows_it(rt: HostRuntime) -> Result<(), F
     Ok(())
 }
 
-/// One card of which a hook is cast out, one is idle and the last bit is a pad bit: pad bits are told before holes without a
-/// column, and these before the count.
+/// One card of which a hook is cast out, one is idle and the last bit is a pad bit: pad bits are told before holes
+/// without a column, and these before the count.
 #[test]
 fn the_faults_of_a_card_have_an_order(rt: HostRuntime) -> Result<(), Fail> {
     const CASES: [(u8, u8, ChainFault, &str); 4] = [
