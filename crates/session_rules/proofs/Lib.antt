@@ -1,0 +1,4 @@
+pub mod Items
+pub mod Keyed
+pub mod Others
+pub mod lemmas
