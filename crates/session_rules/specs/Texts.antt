@@ -6,10 +6,11 @@ use Rattle.mill_base.specs.Texts.{memory_text}
 use Rattle.weave_book.specs.Texts.{weave_text}
 use Rattle.casting_out.specs.Texts.{casting_text}
 use Rattle.harness_ties.specs.Texts.{tie_text}
+use Rattle.strokes.specs.Texts.{act_text, motif_text}
 use Rattle.tiff_palette.specs.Texts.{tiff_text}
 use Rattle.session_rules.specs.declared.fault.SessionFault.{SessionFault}
 use Rattle.session_rules.specs.declared.fault.SessionFaultKind.{SessionFaultKind}
-use Rattle.session_rules.specs.declared.fault.SessionFaultKind.TheVariants.{NotToml, Missing, Kind, Choice, Range, Count, Name, Limit, UnknownKey, Weave, Casting, Tie, Image, ImageSize, ImageColour}
+use Rattle.session_rules.specs.declared.fault.SessionFaultKind.TheVariants.{NotToml, Missing, Kind, Choice, Range, Count, Name, Limit, UnknownKey, Weave, Casting, Tie, Motif, Act, Image, ImageSize, ImageColour}
 use Rattle.session_rules.specs.declared.fault.SessionRefusal.{SessionRefusal}
 use Rattle.session_rules.specs.declared.fault.SessionRefusal.TheVariants.{Fault, ReadFault, TooLong, OutOfMemory}
 
@@ -31,6 +32,8 @@ rest_text UnknownKey = concat (codes "unknown key" ∷ [])
 rest_text (Weave broken) = weave_text broken
 rest_text (Casting broken) = casting_text broken
 rest_text (Tie broken) = tie_text broken
+rest_text (Motif broken) = motif_text broken
+rest_text (Act broken) = act_text broken
 rest_text (Image broken) = tiff_text broken
 rest_text (ImageSize columns picks) = concat (codes "image is " ∷ decimal columns ∷ codes " by " ∷ decimal picks ∷ [] ∷ [])
 rest_text (ImageColour column pick found) = concat (codes "image colour " ∷ decimal found ∷ codes " at " ∷ decimal column ∷ codes " " ∷ decimal pick ∷ [] ∷ [])

@@ -12,6 +12,7 @@ use mill_base::phrase::{Number, Phrase, whole};
 use std::alloc::AllocError;
 use std::error::Error;
 use std::fmt;
+use strokes::fault::{ActFault, MotifFault};
 use tiff_palette::TiffFault;
 use weave_book::fault::WeaveFault;
 
@@ -58,6 +59,8 @@ pub enum SessionFaultKind {
     Weave(WeaveFault),
     Casting(CastingFault),
     Tie(TieFault),
+    Motif(MotifFault),
+    Act(ActFault),
     Image(TiffFault),
     /// The size of an image that is not the design's.
     ImageSize {
@@ -132,6 +135,8 @@ impl SessionFaultKind {
             SessionFaultKind::Weave(fault) => fault.phrase(),
             SessionFaultKind::Casting(fault) => fault.phrase(),
             SessionFaultKind::Tie(fault) => fault.phrase(),
+            SessionFaultKind::Motif(fault) => fault.phrase(),
+            SessionFaultKind::Act(fault) => fault.phrase(),
             SessionFaultKind::Image(fault) => fault.phrase(),
             SessionFaultKind::ImageSize { columns, picks } => {
                 Phrase::Two("image is ", whole(*columns), " by ", whole(*picks), "")
