@@ -1,4 +1,3 @@
-pub mod Items
 pub mod Keyed
 pub mod Others
 pub mod lemmas

@@ -1,4 +1,4 @@
-use Rattle.session_rules.proofs.Items.{items_listed}
+use Rattle.session_rules.proofs.lemmas.Items.{items_listed}
 use Rattle.session_rules.proofs.lists.items_in.Goals as goal
 
 pub returns : goal.returns

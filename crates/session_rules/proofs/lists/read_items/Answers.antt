@@ -6,7 +6,7 @@ use Rattle.toml.specs.View.{view}
 use Rattle.session_rules.specs.Faults.{TellsFirst}
 use Rattle.session_rules.specs.Paths.{indexed, path_of}
 use Rattle.session_rules.specs.Values.{each_value}
-use Rattle.session_rules.proofs.Items.{faults_go_on, faults_stop, values_go_on}
+use Rattle.session_rules.proofs.lemmas.Items.{faults_go_on, faults_stop, values_go_on}
 use Rattle.session_rules.proofs.lists.read_items.Goals as goal
 
 pub returns-in_err-value-clause-reads : goal.returns-in_err-value-clause-reads

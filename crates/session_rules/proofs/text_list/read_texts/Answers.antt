@@ -6,7 +6,7 @@ use Rattle.session_rules.specs.Checks.{text}
 use Rattle.session_rules.specs.Faults.{TellsFirst}
 use Rattle.session_rules.specs.Paths.{indexed, path_of}
 use Rattle.session_rules.specs.Values.{text_in}
-use Rattle.session_rules.proofs.Items.{faults_go_on, faults_stop, values_go_on}
+use Rattle.session_rules.proofs.lemmas.Items.{faults_go_on, faults_stop, values_go_on}
 use Rattle.session_rules.proofs.text_list.read_texts.Goals as goal
 
 pub returns-in_err-push_text-clause-reads : goal.returns-in_err-push_text-clause-reads
