@@ -1,0 +1,5 @@
+pub mod Drafts
+pub mod Fitting
+pub mod Images
+pub mod Motifs
+pub mod Readings
