@@ -38,6 +38,7 @@ impl Session {
         ensures files { H.files shelf.new ≡ H.files shelf.old }
         ensures writes { H.write_faults shelf.new ≡ H.write_faults shelf.old }
         ensures reads { H.read_faults shelf.new ≡ reads_after (H.read_faults shelf.old) result }
+        ensures later { H.read_faults shelf.old ≤ H.read_faults shelf.new }
         ensures failed { H.failed_name shelf.new ≡ name_after (H.failed_name shelf.old) result }
         ensures session { IfOk result (λ session. (bytes : List ℕ) × HeldIn (H.files shelf.old) name.now bytes × Denotes (HeldIn (H.files shelf.old)) bytes session) }
         ensures fits { IfOk result Fits }
@@ -57,6 +58,7 @@ impl Session {
         ensures files { H.files shelf.new ≡ H.files shelf.old }
         ensures writes { H.write_faults shelf.new ≡ H.write_faults shelf.old }
         ensures reads { H.read_faults shelf.new ≡ reads_after (H.read_faults shelf.old) result }
+        ensures later { H.read_faults shelf.old ≤ H.read_faults shelf.new }
         ensures failed { H.failed_name shelf.new ≡ name_after (H.failed_name shelf.old) result }
         ensures session { IfOk result (Denotes (HeldIn (H.files shelf.old)) bytes.now) }
         ensures fits { IfOk result Fits }
@@ -74,6 +76,7 @@ fn read_file<H: Shelf>(alloc: Global, shelf: &mut H, name: &str) -> Result<Vec<u
     ensures files { H.files shelf.new ≡ H.files shelf.old }
     ensures writes { H.write_faults shelf.new ≡ H.write_faults shelf.old }
     ensures reads { H.read_faults shelf.new ≡ reads_after (H.read_faults shelf.old) result }
+    ensures later { H.read_faults shelf.old ≤ H.read_faults shelf.new }
     ensures failed { H.failed_name shelf.new ≡ name_after (H.failed_name shelf.old) result }
     ensures content { IfOk result (λ bytes. HeldIn (H.files shelf.old) name.now bytes.items) }
     ensures refusal { IfErr result (IsUnread (H.files shelf.old) name.now) }
@@ -116,6 +119,7 @@ fn open_paper<H: Shelf>(
     ensures files { H.files shelf.new ≡ H.files shelf.old }
     ensures writes { H.write_faults shelf.new ≡ H.write_faults shelf.old }
     ensures reads { H.read_faults shelf.new ≡ reads_after (H.read_faults shelf.old) result }
+    ensures later { H.read_faults shelf.old ≤ H.read_faults shelf.new }
     ensures failed { H.failed_name shelf.new ≡ name_after (H.failed_name shelf.old) result }
     ensures paper { IfOk result (Opens (HeldIn (H.files shelf.old)) draft.now draft.now.opening) }
     ensures sized { IfOk result (λ paper. (paper.columns ≡ draft.now.design.size.columns) × (paper.picks ≡ draft.now.design.size.picks)) }
