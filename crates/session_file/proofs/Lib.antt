@@ -1,3 +1,4 @@
+pub mod Decided
 pub mod Drafts
 pub mod Fitting
 pub mod Images

@@ -10,6 +10,7 @@ mod document;
 pub mod draft;
 mod head;
 mod image;
+pub mod laws;
 mod motif_table;
 mod numbers;
 mod reading;
