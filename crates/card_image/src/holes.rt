@@ -5,6 +5,8 @@ ghost use Rattle.mill_base.specs.Below.{count_below};
 ghost use Rattle.card_image.specs.Places.{hole_at, hole_bytes};
 ghost use Rattle.card_image.specs.inner.Masks.{IsMask};
 
+use crate::eight_bytes::word_from;
+
 /// Whether there is a hole at a hook.
 pub fn has_hole(holes: &[u8], hook: usize) -> bool
     requires { hook / 8 < length holes.now }
@@ -46,43 +48,6 @@ pub fn clear_holes(holes: &mut [u8], others: &[u8])
         let byte = holes[at];
         holes[at] = byte & !others[at];
     }
-}
-
-// The eight bytes from byte `at` on as a word, of which the first is the lowest. Bytes past the last are 0.
-fn word_from(bytes: &[u8], at: usize) -> u64
-    requires { at < 2 ^ 62 }
-    ensures { (j i : ℕ) → j < 8 → i < 8 → bit_at result (8 * j + i) ≡ bit_at (slice_index bytes.now (at + j)) i }
-{
-    u64::from_le_bytes(eight_from(bytes, at))
-}
-
-fn eight_from(bytes: &[u8], at: usize) -> [u8; 8]
-    requires { at < 2 ^ 62 }
-    ensures { (j : ℕ) → j < 8 → slice_index result j ≡ slice_index bytes.now (at + j) }
-{
-    if bytes.len() < at + 8 {
-        return rest_from(bytes, at);
-    }
-    let mut eight = [0u8; 8];
-    eight.copy_from_slice(&bytes[at..at + 8]);
-    eight
-}
-
-fn rest_from(bytes: &[u8], at: usize) -> [u8; 8]
-    requires { at < 2 ^ 62 }
-    ensures { (j : ℕ) → j < 8 → slice_index result j ≡ slice_index bytes.now (at + j) }
-{
-    let mut eight = [0u8; 8];
-    for j in 0..8 {
-        eight[j] = byte_or_zero(bytes, at + j);
-    }
-    eight
-}
-
-fn byte_or_zero(bytes: &[u8], at: usize) -> u8
-    ensures { result ≡ slice_index bytes.now at }
-{
-    if at < bytes.len() { bytes[at] } else { 0 }
 }
 
 fn lies_within(word: u64, mask: u64) -> bool

@@ -5,6 +5,7 @@ mod card_fault;
 pub mod card_set;
 mod cutting;
 pub mod decoder;
+pub mod eight_bytes;
 pub mod fault;
 mod holes;
 pub mod laws;

@@ -1,1 +1,2 @@
 mod Lifts
+mod ReadCards

@@ -3,5 +3,6 @@
 
 pub mod laws;
 pub mod machine;
+mod reading;
 #[cfg(test)]
 mod tests;

@@ -1,5 +1,5 @@
 use Rattle.std.proofs.Common.{◌≡◌, ◌+◌, ◌<◌, ℕ, get_or, length}
-use Rattle.card_image.proofs.holes.rest_from.Given as goal
+use Rattle.card_image.proofs.eight_bytes.rest_from.Given as goal
 
 abbrev pub invariant-loop-j : goal.invariant-loop-j
 invariant-loop-j l = record {

@@ -2,7 +2,7 @@ use Rattle.std.proofs.Common.{◌+◌, ◌<◌, get_or, sym, subst, ap, ◌∙�
 use Rattle.std.specs.Int.{bit_at}
 use Rattle.std.proofs.Math.Facts.{Fits-lt-pow}
 use Rattle.mill_base.proofs.lemmas.Bytes.{bit_of_read}
-use Rattle.card_image.proofs.holes.word_from.Goals as goal
+use Rattle.card_image.proofs.eight_bytes.word_from.Goals as goal
 
 pub returns : goal.returns
 returns c j i low few =
