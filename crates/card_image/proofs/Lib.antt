@@ -10,5 +10,6 @@ mod Masks
 mod Sound
 mod Told
 mod Turned
+mod Whole
 mod Words
 mod Written

@@ -1,6 +1,7 @@
 //! How the cards of a paper are cut, and how cards are turned.
 ghost use Rattle.std.specs.Prelude.{◌≡◌, [], length, slice_index_or, map, IfOk};
 ghost use Rattle.mill_base.specs.declared.face.Face.{Face};
+ghost use Rattle.casting_out.specs.Cards.{on_hooks};
 ghost use Rattle.card_image.specs.Chains.{Chain};
 ghost use Rattle.card_image.specs.Sets.{cards_up, design_by, other_face, turned_card};
 
@@ -20,6 +21,21 @@ pub fn picks_of(bits: &BitPaper) -> u32
     bits.size().picks
 }
 
+// Puts the cells of a pick on the hooks. Where each hook has a column the row is copied as it is.
+fn put_on_hooks(casting: &Casting, row: &BitRow, card: &mut BitRow)
+    requires row { length row.now ≡ length casting.now.columns }
+    requires card { length card.old ≡ casting.now.hooks }
+    ensures len { length card.new ≡ casting.now.hooks }
+    ensures row { card.new ≡ on_hooks casting.now.hooks casting.now.columns row.now }
+{
+    casting_out::laws::a_row_comes_back_from_the_hooks();
+    if casting.columns() == casting.hooks() {
+        card.copy_from(row);
+        return;
+    }
+    casting.to_hooks(row, card);
+}
+
 /// The chain of the face-up cards of a bit paper.
 pub fn cut_chain(alloc: Global, bits: &BitPaper, casting: &Casting) -> Result<Vec<u8>, OutOfMemory>
     requires { bits.now.columns ≡ length casting.now.columns }
@@ -35,7 +51,7 @@ pub fn cut_chain(alloc: Global, bits: &BitPaper, casting: &Casting) -> Result<Ve
     push_head(&mut chain, hooks, picks, Face::Up)?;
     let mut card = BitRow::new(alloc, hooks)?;
     for pick in 0..picks {
-        casting.to_hooks(bits.row(pick), &mut card);
+        put_on_hooks(casting, bits.row(pick), &mut card);
         push_card(&mut chain, pick, &card)?;
     }
     Ok(chain)

@@ -70,3 +70,9 @@ pub fn columns_hang_on_their_hooks()
 {
     casting_out::laws::columns_and_hooks_match();
 }
+
+/// Where there are as many columns as hooks each column hangs on the hook of its own number.
+pub fn columns_of_a_full_machine_have_their_own_hooks()
+    ensures { (casting : CastingValue) (c : ℕ) → IsCasting casting → length casting.columns ≡ casting.hooks → c < casting.hooks
+        → slice_index casting.columns c ≡ c }
+{}

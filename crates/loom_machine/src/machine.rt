@@ -4,7 +4,7 @@ ghost use Rattle.mill_base.specs.Bits.{packed};
 ghost use Rattle.draft_model.specs.Cards.{lift};
 ghost use Rattle.loom_machine.specs.Machines.{holes_in};
 
-use crate::reading::read_card;
+use crate::reading::read_columns;
 use casting_out::casting::Casting;
 use harness_ties::tie::Tie;
 use mill_base::bit_row::BitRow;
@@ -97,7 +97,6 @@ fn carry(
     ensures packed { (holes : List Bool) → length holes ≡ casting.now.hooks → card.now ≡ packed holes
         → out.new ≡ lift tie.now.ends casting.now holes }
 {
-    read_card(card, hooks);
-    casting.to_columns(hooks, columns);
+    read_columns(casting, card, hooks, columns);
     tie.lay(columns, out);
 }

@@ -19,10 +19,10 @@ loop-pick-preserved c =
     let casting = c.args.casting.now in
     let bits = c.args.bits.now in
     let low : c.loop-pick.pick < length bits.rows = omega (arith, c.loop-pick-test.true, c.picks_of-picks.ensures, c.loop-pick.auto.pick-end) in (
-      c.to_hooks.ensures.len,
-      gone_on (design_by casting (length bits.rows)) c.loop-pick.chain.items c.push_card.new.chain.items Up (cards_up casting bits) c.loop-pick.pick c.to_hooks.new.hooks
+      c.put_on_hooks.ensures.len,
+      gone_on (design_by casting (length bits.rows)) c.loop-pick.chain.items c.push_card.new.chain.items Up (cards_up casting bits) c.loop-pick.pick c.put_on_hooks.new.card
           (cut_is_card c.holes_are_cells.ensures.long c.holes_are_cells.ensures.idle c.columns_and_hooks_match.ensures.hangs casting bits) low c.in_ok-push_card.ensures
-          (c.to_hooks.ensures.row ∙ sym (c.a_card_is_a_row_on_the_hooks.ensures.up casting.hooks casting.columns c.row.result.now)
+          (c.put_on_hooks.ensures.row ∙ sym (c.a_card_is_a_row_on_the_hooks.ensures.up casting.hooks casting.columns c.row.result.now)
           ∙ ap (λ row. card_of_row casting.hooks casting.columns Up row) c.row.ensures.row ∙ sym (cards_up_at casting bits c.loop-pick.pick low))
           c.loop-pick.invariant.1,
     )

@@ -1,4 +1,4 @@
-use Rattle.std.proofs.Common.{◌∙◌, ◌*◌, ◌/◌, ◌%◌, ◌-◌, ◌+◌, arith}
+use Rattle.std.proofs.Common.{◌∙◌, ◌/◌, ◌%◌, ◌-◌, arith}
 use Rattle.loom_machine.proofs.reading.holes_of.Goals as goal
 
 pub returns : goal.returns

@@ -1,4 +1,4 @@
-use Rattle.std.proofs.Common.{◌∙◌, ◌<◌, ℕ, length, sym, subst, arith}
+use Rattle.std.proofs.Common.{◌∙◌, sym, arith}
 use Rattle.mill_base.proofs.lemmas.Packs.{unpacked_is}
 use Rattle.loom_machine.proofs.ReadCards.{read_more}
 use Rattle.loom_machine.proofs.reading.read_card.Goals as goal
