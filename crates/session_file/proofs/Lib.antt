@@ -4,3 +4,4 @@ pub mod Fitting
 pub mod Images
 pub mod Motifs
 pub mod Readings
+pub mod Trials

@@ -4,5 +4,6 @@ pub mod Readings
 pub mod Rules
 pub mod Sessions
 pub mod Trade
+pub mod Trials
 pub mod Values
 pub mod inner

@@ -76,7 +76,7 @@ impl KnownKeys for ColourKeys {
 }
 
 // The default of the colour at a place of the list.
-fn grey(alloc: Global, place: usize) -> Result<Listed<u16>, OutOfMemory>
+pub(crate) fn grey(alloc: Global, place: usize) -> Result<Listed<u16>, OutOfMemory>
     ensures { IfOk result (λ rgb. rgb ≡ grey_of place) }
 {
     let level = 257 * place.min(255) as u16;

@@ -76,7 +76,7 @@ fn read_faces(
     optional(alloc, path, table, "faces", &faces, up)
 }
 
-fn all_up(alloc: Global, looms: u32) -> Result<Listed<Face>, OutOfMemory>
+pub(crate) fn all_up(alloc: Global, looms: u32) -> Result<Listed<Face>, OutOfMemory>
     ensures { IfOk result (λ faces. faces ≡ replicate looms Up) }
 {
     let faces = Vec::from_elem(alloc, Face::Up, looms as usize)?;

@@ -20,4 +20,5 @@ mod shift_table;
 mod tests;
 mod tie_table;
 mod trade_forms;
+mod trial;
 mod words;

@@ -140,7 +140,12 @@ fn open_paper<H: Shelf>(
     }
 }
 
-fn plain_paper(alloc: Global, size: Size, colours: u32, colour: u32) -> Result<Paper, OutOfMemory>
+pub(crate) fn plain_paper(
+    alloc: Global,
+    size: Size,
+    colours: u32,
+    colour: u32,
+) -> Result<Paper, OutOfMemory>
     requires colour { colour < colours }
     requires few { colours ≤ MAX_COLOURS }
     ensures paper { IfOk result (λ paper. paper ≡ paper_by size.columns size.picks (λ column pick. colour)) }
