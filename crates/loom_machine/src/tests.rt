@@ -67,6 +67,21 @@ fn a_hole_lifts_the_ends_of_its_column(rt: HostRuntime) -> Result<(), Fail> {
     Ok(())
 }
 
+/// Two ends on two hooks: a card with both holes, and one with the second alone.
+#[test]
+fn two_hooks_lift_two_ends(rt: HostRuntime) -> Result<(), Fail> {
+    let alloc = rt.alloc();
+    let casting = Casting::build(alloc, 2, &[], 2)?;
+    let round = Section {
+        kind: SectionKind::Straight,
+        from: 0,
+        to: 1,
+        times: 1,
+    };
+    let tie = Tie::build(alloc, &[round], 2)?;
+    expect_lifted(&rt, alloc, &tie, &casting, [0xC0, 0x40], ["##", ".#"])
+}
+
 #[test]
 fn the_greatest_machine_lifts_all_its_ends(rt: HostRuntime) -> Result<(), Fail> {
     let alloc = rt.alloc();
