@@ -1,0 +1,24 @@
+-- The laws of the journal, as they are handed in.
+use Rattle.std.proofs.Common.{◌≡◌, ◌+◌, List, ◌++◌, length, take, drop, sym, ap, ◌∙◌}
+use Rattle.std.specs.Prelude.{count_by}
+use Rattle.std.proofs.lemmas.List.{take-append-drop}
+use Rattle.point_paper.specs.Papers.{PaperCells}
+use Rattle.draft_model.specs.declared.design.Design.{Design}
+use Rattle.version_journal.specs.Entries.{is_accepted}
+use Rattle.version_journal.specs.Journals.{ActWithMotif, replies, versions}
+
+abbrev pub VersionsStay : Type 0
+VersionsStay = (design : Design) (opening : PaperCells) (one other : List ActWithMotif)
+    → take (length (versions design opening one)) (versions design opening (one ++ other)) ≡ versions design opening one
+
+abbrev pub VersionsCount : Type 0
+VersionsCount = (design : Design) (opening : PaperCells) (acts : List ActWithMotif)
+    → length (versions design opening acts) ≡ count_by is_accepted (replies design opening acts) + 1
+
+-- acts only add versions
+pub versions_grow : VersionsStay → (design : Design) (opening : PaperCells) (one other : List ActWithMotif)
+    → (rest : List PaperCells) × (versions design opening (one ++ other) ≡ versions design opening one ++ rest)
+versions_grow stay design opening one other =
+    let n = length (versions design opening one) in
+    let all : List PaperCells = versions design opening (one ++ other) in
+    (drop n all, sym (take-append-drop n all) ∙ ap (λ l. l ++ drop n all) (stay design opening one other))

@@ -1,0 +1,8 @@
+mod Adding
+mod Benches
+mod Desks
+mod JournalLaws
+mod Lists
+mod Painting
+mod Runs
+mod Slots

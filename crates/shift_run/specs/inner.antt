@@ -1,0 +1,5 @@
+pub mod Adds
+pub mod Benches
+pub mod Desks
+pub mod Runs
+pub mod Slots
