@@ -4,14 +4,14 @@
 use mill_io::file_shelf::FileShelf;
 use mill_io::gate::OpenGate;
 use mill_io::output_sink::OutputSink;
+use report_text::cause::Cause;
+use report_text::fault_line::fault_line;
 use std::alloc::Global;
 use std::io::ErrorKind;
 use std::process::ExitCode;
 use std::rt::Env;
 use std::{env, io};
 use studio_run::answer::studio;
-use studio_run::fault_line::fault_line;
-use studio_run::report_text::Cause;
 
 fn main(rt: HostRuntime) -> ExitCode {
     let alloc = rt.alloc();

@@ -1,106 +1,218 @@
 -- What the answer of the studio says.
-use Rattle.std.specs.Prelude.{◌≡◌, ℕ, ◌≤◌, Bool, true, false, List, length, map, Option, Some, None, IsSome, Result, Ok, Err, String}
+use Rattle.std.specs.Prelude.{◌≡◌, ◌⊎◌, ℕ, ◌≤◌, Bool, true, false, List, map, Option, Some, None, IsNone, IsSomeAnd, MatchOption, is_some, String}
 use Rattle.std.specs.String.{string_bytes}
 use Rattle.std.specs.declared.alloc.Global.{Global}
-use Rattle.mill_base.specs.Causes.{Rose}
-use Rattle.mill_io.specs.Files.{File, content_of}
+use Rattle.mill_base.specs.Causes.{Rose, risen}
+use Rattle.mill_base.specs.declared.limits.TheConstants.{MAX_FILE_BYTES}
+use Rattle.mill_io.specs.Files.{File, Stands, StandsInPart}
 use Rattle.mill_io.specs.Reads.{HoldsMore}
 use Rattle.mill_io.specs.Takes.{TookAll, TookPart}
-use Rattle.studio_run.specs.declared.report_text.Cause.{Cause}
-use Rattle.studio_run.specs.declared.report_text.Cause.TheVariants.{Done, Usage, Session, OutOfMemory, ReadFault, WriteFault, TooLong}
-use Rattle.studio_run.specs.declared.session_file.Session.{Session as SessionValue}
-use Rattle.studio_run.specs.declared.session_file.SessionFault.{SessionFault}
-use Rattle.studio_run.specs.declared.session_file.SessionRefusal.{SessionRefusal}
-use Rattle.studio_run.specs.declared.session_file.SessionRefusal.TheVariants.{Fault, ReadFault as CannotRead, TooLong as HasTooMuch, OutOfMemory as NoMemory}
-use Rattle.studio_run.specs.declared.version_journal.RunLog.{RunLog}
-use Rattle.studio_run.specs.Commands.{session_name}
-use Rattle.studio_run.specs.Sessions.{SessionOf, Read, file_limit}
-use Rattle.studio_run.specs.Logs.{Legal}
-use Rattle.studio_run.specs.Reports.{report}
+use Rattle.card_image.specs.Faults.{end_fault}
+use Rattle.version_journal.specs.Journals.{float_kept}
+use Rattle.version_journal.specs.declared.run_log.RunLog.{RunLog}
+use Rattle.session_file.specs.Readings.{HeldIn}
+use Rattle.session_file.specs.Sessions.{Breaks, Wants}
+use Rattle.session_file.specs.declared.session.Session.{Session as SessionValue}
+use Rattle.report_text.specs.declared.cause.Cause.{Cause}
+use Rattle.report_text.specs.declared.cause.Cause.TheVariants.{Done, Usage, Session, OpeningFloat, OutOfMemory, ReadFault, WriteFault, TooLong, Chain}
+use Rattle.studio_run.specs.declared.command.Command.{Command}
+use Rattle.studio_run.specs.declared.command.Command.TheVariants.{Weave, Check, Draw, Paper, Cards, Lift, Trial}
+use Rattle.studio_run.specs.Commands.{chain_name, command_of, file_name, reads_file, runs_looms, session_name}
+use Rattle.studio_run.specs.Outputs.{IsAbout, IsOfFile, IsOutput, cards_of}
 
 -- the words of the command line as bytes
 abbrev pub texts : List (String Global) → List (List ℕ)
 texts words = map (λ word. string_bytes word) words
 
--- the cause of the end where the session was not read
-abbrev pub cause_of : SessionRefusal → Cause
-cause_of (Fault fault) = Session fault
-cause_of (CannotRead name) = ReadFault name
-cause_of (HasTooMuch name) = TooLong name
-cause_of NoMemory = OutOfMemory
-
--- whether a session was run: then there is a log
-abbrev pub has_run : Cause → Bool
-has_run Done = true
-has_run Usage = false
-has_run (Session fault) = false
-has_run OutOfMemory = false
-has_run (ReadFault name) = false
-has_run WriteFault = true
-has_run (TooLong name) = false
-
--- the words name a file, and the bytes that the shelf answered for it, which are those that it holds where it tells, denote the
--- session or break the rule
-pub record Denotes (words : List (List ℕ)) (files : Option (List File)) (result : Result SessionValue SessionFault) : Type 0 where
-  pub name : List ℕ
-  pub command : session_name words ≡ Some name
-  pub read : Read name files result
-
--- the session was run with this legal log, and of its report what is said of the sink was taken
-pub record RunOf (session : SessionValue) (run_log : Option RunLog) (taken : List ℕ → Type 0) : Type 0 where
-  pub log : RunLog
-  pub kept : run_log ≡ Some log
-  pub legal : Legal session log
-  pub reported : taken (report session log)
-
--- the session of the words was run so
-pub record Ran (words : List (List ℕ)) (files : Option (List File)) (run_log : Option RunLog) (taken : List ℕ → Type 0) : Type 0 where
-  pub session : SessionValue
-  pub named : Denotes words files (Ok session)
-  pub run : RunOf session run_log taken
-
--- the words name a file that is there and not too long, and its bytes denote a session
-pub record IsGood (words : List (List ℕ)) (held : List File) : Type 0 where
-  pub name : List ℕ
-  pub bytes : List ℕ
-  pub session : SessionValue
-  pub command : session_name words ≡ Some name
-  pub content : content_of held name ≡ Some bytes
-  pub within : length bytes ≤ file_limit
-  pub denotes : SessionOf bytes (Ok session)
-
--- what a call found outside, and what it left there: the files, the counts of faults of the shelf's reads and of the sink, the name of
--- the read that failed last, and what the sink took
-pub record Outside : Type 0 where
+-- what contracts see of a shelf at a moment: its files, its counts of faults, and the name of the read that failed last
+pub record ShelfState : Type 0 where
   pub files : Option (List File)
-  pub reads_before : ℕ
-  pub reads_now : ℕ
+  pub reads : ℕ
+  pub writes : ℕ
   pub failed_name : List ℕ
-  pub faults_before : ℕ
-  pub faults_now : ℕ
-  pub taken_before : Option (List ℕ)
-  pub taken_now : Option (List ℕ)
 
--- nothing was put out and no put failed, and there is no log
-abbrev pub IsQuiet : Outside → Option RunLog → Type 0
-IsQuiet o run_log = (o.taken_now ≡ o.taken_before) × (o.faults_now ≡ o.faults_before) × (run_log ≡ None)
+-- what they see of a sink: what it took, and its count of faults
+pub record SinkState : Type 0 where
+  pub taken : Option (List ℕ)
+  pub faults : ℕ
 
--- what each cause says of the words and of this call
-abbrev pub IsCaused : List (List ℕ) → Outside → Option RunLog → Cause → Type 0
-IsCaused words o run_log Done = Ran words o.files run_log (TookAll o.taken_before o.taken_now)
-IsCaused words o run_log Usage = (session_name words ≡ None) × IsQuiet o run_log
-IsCaused words o run_log (Session fault) = Denotes words o.files (Err fault) × IsQuiet o run_log
-IsCaused words o run_log OutOfMemory = IsSome (session_name words) × IsQuiet o run_log
-IsCaused words o run_log (ReadFault name) = (session_name words ≡ Some name) × Rose o.reads_before o.reads_now × (o.failed_name ≡ name) × IsQuiet o run_log
-IsCaused words o run_log WriteFault = Rose o.faults_before o.faults_now × Ran words o.files run_log (TookPart o.taken_before o.taken_now)
-IsCaused words o run_log (TooLong name) = (session_name words ≡ Some name) × HoldsMore o.files name file_limit × IsQuiet o run_log
+-- what a call found outside, and what it left there
+pub record Outside : Type 0 where
+  pub shelf_before : ShelfState
+  pub shelf : ShelfState
+  pub sink_before : SinkState
+  pub sink : SinkState
 
--- what a run and its report say of their own causes; no other comes
-abbrev pub IsRun : SessionValue → Option (List ℕ) → Option (List ℕ) → ℕ → ℕ → Option RunLog → Cause → Type 0
-IsRun session before now faults_before faults_now run_log Done = RunOf session run_log (TookAll before now)
-IsRun session before now faults_before faults_now run_log Usage = ⊥
-IsRun session before now faults_before faults_now run_log (Session fault) = ⊥
-IsRun session before now faults_before faults_now run_log OutOfMemory = (now ≡ before) × (faults_now ≡ faults_before) × (run_log ≡ None)
-IsRun session before now faults_before faults_now run_log (ReadFault name) = ⊥
-IsRun session before now faults_before faults_now run_log WriteFault = Rose faults_before faults_now × RunOf session run_log (TookPart before now)
-IsRun session before now faults_before faults_now run_log (TooLong name) = ⊥
+abbrev pub shelf_state : Option (List File) → ℕ → ℕ → List ℕ → ShelfState
+shelf_state files reads writes failed_name = record { files = files; reads = reads; writes = writes; failed_name = failed_name }
+
+abbrev pub sink_state : Option (List ℕ) → ℕ → SinkState
+sink_state taken faults = record { taken = taken; faults = faults }
+
+abbrev pub outside : ShelfState → ShelfState → SinkState → SinkState → Outside
+outside shelf_before shelf sink_before sink = record { shelf_before = shelf_before; shelf = shelf; sink_before = sink_before; sink = sink }
+
+-- nothing was written, and no write failed
+pub record KeepsFiles (o : Outside) : Type 0 where
+  pub files : o.shelf.files ≡ o.shelf_before.files
+  pub writes : o.shelf.writes ≡ o.shelf_before.writes
+
+-- nothing was written or put out, nothing of this failed, and there is no log
+pub record IsQuiet (o : Outside) (run_log : Option RunLog) : Type 0 where
+  pub files : KeepsFiles o
+  pub sink : o.sink ≡ o.sink_before
+  pub no_log : run_log ≡ None
+
+-- the bytes were put out: all of them, or a prefix where a put failed
+pub record PutAll (o : Outside) (bytes : List ℕ) : Type 0 where
+  pub files : KeepsFiles o
+  pub faults : o.sink.faults ≡ o.sink_before.faults
+  pub taken : TookAll o.sink_before.taken o.sink.taken bytes
+
+pub record PutPart (o : Outside) (bytes : List ℕ) : Type 0 where
+  pub files : KeepsFiles o
+  pub rose : Rose o.sink_before.faults o.sink.faults
+  pub taken : TookPart o.sink_before.taken o.sink.taken bytes
+
+-- the files of a shelf that tells, before and now, go together so; a shelf that does not tell goes on not telling
+abbrev pub Changed : Outside → (List File → List File → Type 0) → Type 0
+Changed o P = MatchOption o.shelf_before.files (IsNone o.shelf.files) (λ old. IsSomeAnd o.shelf.files (λ new. P old new))
+
+-- the bytes were written under the name: all of them, or where the write failed a prefix, or what stood there stands there still; other names stay
+pub record WroteAll (o : Outside) (name bytes : List ℕ) : Type 0 where
+  pub sink : o.sink ≡ o.sink_before
+  pub writes : o.shelf.writes ≡ o.shelf_before.writes
+  pub files : Changed o (λ old new. Stands old new name bytes)
+
+pub record WrotePart (o : Outside) (name bytes : List ℕ) : Type 0 where
+  pub sink : o.sink ≡ o.sink_before
+  pub rose : Rose o.shelf_before.writes o.shelf.writes
+  pub files : Changed o (λ old new. StandsInPart old new name bytes)
+
+-- the output went where the command has it go: whole, or in part
+abbrev pub Delivered : Option (List ℕ) → Outside → List ℕ → Type 0
+Delivered None o bytes = PutAll o bytes
+Delivered (Some name) o bytes = WroteAll o name bytes
+
+abbrev pub DeliveredPart : Option (List ℕ) → Outside → List ℕ → Type 0
+DeliveredPart None o bytes = PutPart o bytes
+DeliveredPart (Some name) o bytes = WrotePart o name bytes
+
+-- The bytes are the output of the command, about a session whose opening keeps no float.
+pub record IsMade (command : Command) (words : List (List ℕ)) (files : Option (List File)) (run_log : Option RunLog) (bytes : List ℕ) : Type 0 where
+  pub session : SessionValue
+  pub about : IsAbout command words files session
+  pub sound : float_kept session.design session.opening ≡ None
+  pub output : IsOutput command words files session run_log bytes
+
+-- the output was made, and this holds of it
+abbrev pub DidWork : Command → List (List ℕ) → Option (List File) → Option RunLog → (List ℕ → Type 0) → Type 0
+DidWork command words files run_log delivered = (bytes : List ℕ) × IsMade command words files run_log bytes × delivered bytes
+
+-- The file of this name is the one whose turn it was: the session's; or the image's that a sound session file names; or the chain's, where the
+-- session is one and its opening keeps no float.
+abbrev pub IsChainsTurn : Command → List (List ℕ) → Option (List File) → List ℕ → Type 0
+IsChainsTurn command words files name =
+    (command ≡ Lift) × (name ≡ chain_name words)
+    × (session : SessionValue) × IsOfFile words files session × (float_kept session.design session.opening ≡ None)
+
+abbrev pub HasTurn : Command → List (List ℕ) → Option (List File) → List ℕ → Type 0
+HasTurn command words files name =
+    (reads_file command ≡ true)
+    × ((name ≡ session_name words)
+    ⊎ ((bytes : List ℕ) × HeldIn files (session_name words) bytes × Wants bytes name)
+    ⊎ IsChainsTurn command words files name)
+
+-- Why a command came to no output. Where `rose` holds, the count of read faults rose in this call; `failed` is the name of the read that failed
+-- last. Out of memory says nothing, and no other cause comes.
+abbrev pub Fails : Command → List (List ℕ) → Option (List File) → Type 0 → List ℕ → Cause → Type 0
+Fails command words files rose failed Done = ⊥
+Fails command words files rose failed Usage = ⊥
+Fails command words files rose failed (Session broken) =
+    (reads_file command ≡ true) × (bytes : List ℕ) × HeldIn files (session_name words) bytes × Breaks (HeldIn files) bytes broken
+Fails command words files rose failed (OpeningFloat float) =
+    (session : SessionValue) × IsAbout command words files session × (float_kept session.design session.opening ≡ Some float)
+Fails command words files rose failed OutOfMemory = Unit {0}
+Fails command words files rose failed (ReadFault name) = HasTurn command words files name × rose × (failed ≡ name)
+Fails command words files rose failed WriteFault = ⊥
+Fails command words files rose failed (TooLong name) = HasTurn command words files name × HoldsMore files name MAX_FILE_BYTES
+Fails command words files rose failed (Chain broken) =
+    (command ≡ Lift) × (session : SessionValue) × IsOfFile words files session × (float_kept session.design session.opening ≡ None)
+    × (chain : List ℕ) × HeldIn files (chain_name words) chain × (end_fault (cards_of session) chain ≡ Some broken)
+
+abbrev pub FailsQuietly : Command → List (List ℕ) → Outside → Option RunLog → Cause → Type 0
+FailsQuietly command words o run_log cause =
+    Fails command words o.shelf_before.files (Rose o.shelf_before.reads o.shelf.reads) o.shelf.failed_name cause × IsQuiet o run_log
+
+-- What each cause says of a command and of this call.
+abbrev pub IsEndOf : Command → List (List ℕ) → Outside → Option RunLog → Cause → Type 0
+IsEndOf command words o run_log Done = DidWork command words o.shelf_before.files run_log (Delivered (file_name command words) o)
+IsEndOf command words o run_log Usage = ⊥
+IsEndOf command words o run_log (Session broken) = FailsQuietly command words o run_log (Session broken)
+IsEndOf command words o run_log (OpeningFloat float) = FailsQuietly command words o run_log (OpeningFloat float)
+IsEndOf command words o run_log OutOfMemory = FailsQuietly command words o run_log OutOfMemory
+IsEndOf command words o run_log (ReadFault name) = FailsQuietly command words o run_log (ReadFault name)
+IsEndOf command words o run_log WriteFault = DidWork command words o.shelf_before.files run_log (DeliveredPart (file_name command words) o)
+IsEndOf command words o run_log (TooLong name) = FailsQuietly command words o run_log (TooLong name)
+IsEndOf command words o run_log (Chain broken) = FailsQuietly command words o run_log (Chain broken)
+
+-- the count of read faults after an end, and the name of the read that failed last: one more, and the name that is told, where a file could not be
+-- read; else both are as before
+abbrev pub reads_at : ℕ → Cause → ℕ
+reads_at before Done = before
+reads_at before Usage = before
+reads_at before (Session broken) = before
+reads_at before (OpeningFloat float) = before
+reads_at before OutOfMemory = before
+reads_at before (ReadFault name) = risen before
+reads_at before WriteFault = before
+reads_at before (TooLong name) = before
+reads_at before (Chain broken) = before
+
+abbrev pub name_at : List ℕ → Cause → List ℕ
+name_at before Done = before
+name_at before Usage = before
+name_at before (Session broken) = before
+name_at before (OpeningFloat float) = before
+name_at before OutOfMemory = before
+name_at before (ReadFault name) = name
+name_at before WriteFault = before
+name_at before (TooLong name) = before
+name_at before (Chain broken) = before
+
+-- Words that ask for nothing are told at once; else the command has come to its end.
+abbrev pub IsCausedBy : Option Command → List (List ℕ) → Outside → Option RunLog → Cause → Type 0
+IsCausedBy None words o run_log cause = (cause ≡ Usage) × IsQuiet o run_log
+IsCausedBy (Some command) words o run_log cause = IsEndOf command words o run_log cause
+
+-- a log goes with the commands that run looms, once they were run
+abbrev pub has_run : Option Command → Cause → Bool
+has_run None cause = false
+has_run (Some command) Done = runs_looms command
+has_run (Some command) WriteFault = runs_looms command
+has_run (Some command) Usage = false
+has_run (Some command) (Session broken) = false
+has_run (Some command) (OpeningFloat float) = false
+has_run (Some command) OutOfMemory = false
+has_run (Some command) (ReadFault name) = false
+has_run (Some command) (TooLong name) = false
+has_run (Some command) (Chain broken) = false
+
+-- The words are a command, the files that it reads are there and not too long, they denote a session whose opening keeps no float, and for `lift`
+-- the chain's file is a chain of the design.
+abbrev pub HasChain : Command → List (List ℕ) → Option (List File) → SessionValue → Type 0
+HasChain Lift words files session = (chain : List ℕ) × HeldIn files (chain_name words) chain × (end_fault (cards_of session) chain ≡ None)
+HasChain Weave words files session = Unit {0}
+HasChain Check words files session = Unit {0}
+HasChain Draw words files session = Unit {0}
+HasChain Paper words files session = Unit {0}
+HasChain (Cards face) words files session = Unit {0}
+HasChain (Trial n) words files session = Unit {0}
+
+pub record IsGood (words : List (List ℕ)) (held : List File) : Type 0 where
+  pub command : Command
+  pub session : SessionValue
+  pub asked : command_of words ≡ Some command
+  pub about : IsAbout command words (Some held) session
+  pub sound : float_kept session.design session.opening ≡ None
+  pub chain : HasChain command words (Some held) session

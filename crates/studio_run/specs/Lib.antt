@@ -1,10 +1,4 @@
 pub mod Commands
-pub mod Strokes
-pub mod Sessions
-pub mod Plans
-pub mod Journals
-pub mod Repeats
-pub mod Logs
-pub mod Reports
-pub mod Faults
+pub mod Outputs
 pub mod Answers
+pub mod inner

@@ -1,17 +1,108 @@
 //! The words of the command line.
-ghost use Rattle.std.specs.Prelude.{◌≡◌, map, option_copied};
-ghost use Rattle.std.specs.String.{string_bytes};
-ghost use Rattle.studio_run.specs.Commands.{session_name as session_name_of};
+ghost use Rattle.std.specs.Prelude.{◌≡◌, option_copied};
+ghost use Rattle.studio_run.specs.Answers.{texts};
+ghost use Rattle.studio_run.specs.Commands.{command_of, command_of_four, command_of_three, command_of_two, file_name as file_name_of, runs_looms as does_run_looms, word_at};
 
-/// The name of the session's file, where the words are `weave SESSION`. Other words, and an empty name, are an unknown command.
-pub fn session_name(words: &[String]) -> Option<&str>
-    ensures { option_copied result ≡ session_name_of (map (λ word. string_bytes word) words.now) }
-{
-    let [verb, name] = words else {
-        return None;
-    };
-    if verb.as_str() == "weave" && !name.is_empty() {
-        return Some(name.as_str());
+use mill_base::face::Face;
+use mill_base::words::number;
+
+/// What the words ask for. The names of the files that a command reads and writes stand among the words.
+#[derive(Clone, Copy, Debug, PartialEq, Eq)]
+pub enum Command {
+    /// `weave SESSION`: the session is run, and its report is put out.
+    Weave,
+    /// `check SESSION`: the session is read, and one line on its size is put out.
+    Check,
+    /// `draw SESSION OUT`: the image of the drawdown of the last version is written.
+    Draw,
+    /// `paper SESSION OUT`: the image of the paper of the last version is written.
+    Paper,
+    /// `cards SESSION OUT`, with a fourth word `down` for a cloth that lies face down: the card chain of the last version is written.
+    Cards(Face),
+    /// `lift SESSION CHAIN OUT`: the image of the cloth that a card chain lifts is written.
+    Lift,
+    /// `trial N`: the trial session of that number is run, and one line on it is put out.
+    Trial(u32),
+}
+
+impl Command {
+    /// What the words ask for, where they are exactly those of a command and none of them is empty. The words are this project's own.
+    pub fn parse(words: &[String]) -> Option<Command>
+        ensures { result ≡ command_of (texts words.now) }
+    {
+        match words {
+            [verb, name] if !name.is_empty() => command_of_two_words(verb.as_str(), name.as_str()),
+            [verb, name, second] if !name.is_empty() && !second.is_empty() => {
+                command_of_three_words(verb.as_str())
+            }
+            [verb, name, second, last]
+                if !name.is_empty() && !second.is_empty() && !last.is_empty() => {
+                command_of_four_words(verb.as_str(), last.as_str())
+            }
+            _ => None,
+        }
     }
-    None
+
+    /// Whether the command runs a session with its looms.
+    pub fn runs_looms(self) -> bool
+        ensures { result ≡ does_run_looms self }
+    {
+        match self {
+            Command::Weave | Command::Trial(_) => true,
+            _ => false,
+        }
+    }
+
+    /// The name of the file that the command writes, where it writes one.
+    pub fn file_name(self, words: &[String]) -> Option<&str>
+        ensures { option_copied result ≡ file_name_of self (texts words.now) }
+    {
+        match self {
+            Command::Weave | Command::Check | Command::Trial(_) => None,
+            Command::Draw | Command::Paper | Command::Cards(_) => Some(word(words, 2)),
+            Command::Lift => Some(word(words, 3)),
+        }
+    }
+}
+
+/// The word of that place, counted from 0; where there is none it is the empty one.
+pub fn word(words: &[String], place: usize) -> &str
+    ensures { result.now ≡ word_at place (texts words.now) }
+{
+    match words.get(place) {
+        Some(word) => word.as_str(),
+        None => "",
+    }
+}
+
+fn command_of_two_words(verb: &str, name: &str) -> Option<Command>
+    ensures { result ≡ command_of_two verb.now name.now }
+{
+    match verb {
+        "weave" => Some(Command::Weave),
+        "check" => Some(Command::Check),
+        "trial" => Some(Command::Trial(number(name.as_bytes())?)),
+        _ => None,
+    }
+}
+
+fn command_of_three_words(verb: &str) -> Option<Command>
+    ensures { result ≡ command_of_three verb.now }
+{
+    match verb {
+        "draw" => Some(Command::Draw),
+        "paper" => Some(Command::Paper),
+        "cards" => Some(Command::Cards(Face::Up)),
+        _ => None,
+    }
+}
+
+fn command_of_four_words(verb: &str, last: &str) -> Option<Command>
+    ensures { result ≡ command_of_four verb.now last.now }
+{
+    match (verb, last) {
+        ("lift", _) => Some(Command::Lift),
+        ("cards", "down") => Some(Command::Cards(Face::Down)),
+        _ => None,
+    }
 }

@@ -1,15 +1,10 @@
-//! The studio as one call: from the words of the command line to the report.
+//! The studio as one call: from the words of the command line to what is put out or written.
 #![tactic(auto)]
 
 pub mod answer;
 pub mod command;
-mod document_parts;
-pub mod fault_line;
-pub mod loom_threads;
-mod plain_parts;
-pub mod report_text;
-pub mod session_file;
-mod session_form;
-pub mod shift_run;
-pub mod strokes;
-pub mod version_journal;
+pub mod laws;
+mod lifting;
+mod opening;
+mod plain_end;
+mod run_end;

@@ -1,6 +1,0 @@
-use Rattle.std.proofs.Common.{◌≡◌, ◌++◌, take}
-use Rattle.studio_run.specs.Reports.{loom_lines}
-use Rattle.studio_run.proofs.report_text.push_repeats.Given as goal
-
-abbrev pub invariant-loop-number : goal.invariant-loop-number
-invariant-loop-number l = l.out.items ≡ l.initial.out.items ++ loom_lines l.shift l.face l.loom (take l.number l.repeats)

@@ -1,0 +1,6 @@
+use Rattle.studio_run.proofs.Ends.{run_end}
+use Rattle.studio_run.proofs.run_end.run_end.Goals as goal
+
+pub returns-in-Ok-clause-caused : goal.returns-in-Ok-clause-caused
+returns-in-Ok-clause-caused g c = run_end _ _ _ c.in-Ok.session _ _ c.requires.runs c.in-Ok.ensures.about
+    (record { files = c.in-Ok.ensures.files; writes = c.in-Ok.ensures.writes }) c.run_and_put.ensures.run

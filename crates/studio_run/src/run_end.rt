@@ -1,0 +1,112 @@
+//! The commands that run a session with its looms: `weave` and `trial`.
+ghost use Rattle.std.specs.Prelude.{◌≡◌, ◌≤◌, true, map, None, Some, IfOk};
+ghost use Rattle.draft_model.specs.Designs.{IsPaperOf};
+ghost use Rattle.version_journal.specs.Journals.{float_kept};
+ghost use Rattle.shift_run.specs.Logs.{Legal, named_act};
+ghost use Rattle.shift_run.specs.Plans.{IsNewest, plain_order, plain_versions};
+ghost use Rattle.session_file.specs.Plans.{Fits};
+ghost use Rattle.studio_run.specs.Answers.{IsEndOf, name_at, outside, reads_at, shelf_state, sink_state, texts};
+ghost use Rattle.studio_run.specs.Commands.{runs_looms};
+ghost use Rattle.studio_run.specs.inner.Ends.{IsRun, Made};
+
+use crate::answer::Outcome;
+use crate::command::Command;
+use crate::opening::{session_of, start_cause};
+use loom_threads::digest::cloth_digest;
+use mill_base::memory::OutOfMemory;
+use mill_io::pieces::put_pieces;
+use mill_io::shelf::Shelf;
+use mill_io::sink::Sink;
+use report_text::cause::Cause;
+use report_text::report::report;
+use report_text::summary::trial_line;
+use session_file::session::Session;
+use shift_run::run::{Ran, run_session};
+use std::alloc::Global;
+
+/// Does a command that runs looms.
+#[tactic(auto, using(crate::proofs::Ends::run_end, crate::proofs::Ends::failed_end, crate::proofs::Ends::run_reads, crate::proofs::Ends::run_name))]
+pub(crate) fn run_end<H: Shelf, K: Sink>(
+    alloc: Global,
+    command: Command,
+    words: &[String],
+    shelf: &mut H,
+    out: &mut K,
+) -> Outcome
+    requires runs { runs_looms command ≡ true }
+    ensures caused { IsEndOf command (texts words.now)
+        (outside (shelf_state (H.files shelf.old) (H.read_faults shelf.old) (H.write_faults shelf.old) (H.failed_name shelf.old))
+        (shelf_state (H.files shelf.new) (H.read_faults shelf.new) (H.write_faults shelf.new) (H.failed_name shelf.new))
+        (sink_state (K.taken out.old) (K.faults out.old))
+        (sink_state (K.taken out.new) (K.faults out.new))) result.run_log result.cause }
+    ensures reads { H.read_faults shelf.new ≡ reads_at (H.read_faults shelf.old) result.cause }
+    ensures failed { H.failed_name shelf.new ≡ name_at (H.failed_name shelf.old) result.cause }
+    ensures later { (H.read_faults shelf.old ≤ H.read_faults shelf.new) × (H.write_faults shelf.old ≤ H.write_faults shelf.new)
+        × (K.faults out.old ≤ K.faults out.new) }
+{
+    match session_of(alloc, command, words, shelf) {
+        Ok(session) => run_and_put(alloc, command, &session, out),
+        Err(cause) => ended(cause),
+    }
+}
+
+// An end before anything was put out.
+fn ended(cause: Cause) -> Outcome
+    ensures { result ≡ record { cause = cause; run_log = None } }
+{
+    Outcome {
+        cause,
+        run_log: None,
+    }
+}
+
+// Runs the session and puts out what is told of the run, which is made in memory before its first byte goes out.
+fn run_and_put<K: Sink>(alloc: Global, command: Command, session: &Session, out: &mut K) -> Outcome
+    requires runs { runs_looms command ≡ true }
+    requires fits { Fits session.now }
+    ensures later { K.faults out.old ≤ K.faults out.new }
+    ensures run { IsRun command session.now (sink_state (K.taken out.old) (K.faults out.old)) (sink_state (K.taken out.new) (K.faults out.new))
+        result.run_log result.cause }
+{
+    let ran = match run_session(alloc, session) {
+        Ok(ran) => ran,
+        Err(refusal) => return ended(start_cause(refusal)),
+    };
+    let Ok(text) = text_of_run(alloc, command, session, &ran) else {
+        return ended(Cause::OutOfMemory);
+    };
+    let cause = match put_pieces(out, &text) {
+        Ok(()) => Cause::Done,
+        Err(_) => Cause::WriteFault,
+    };
+    Outcome {
+        cause,
+        run_log: Some(ran.run_log),
+    }
+}
+
+// What is told of a run: its report, or the line of a trial.
+fn text_of_run(
+    alloc: Global,
+    command: Command,
+    session: &Session,
+    ran: &Ran,
+) -> Result<Vec<u8>, OutOfMemory>
+    requires runs { runs_looms command ≡ true }
+    requires fits { Fits session.now }
+    requires sound { float_kept session.now.design session.now.opening ≡ None }
+    requires legal { Legal session.now ran.now.run_log }
+    requires plain { map (named_act session.now) ran.now.run_log.entries ≡ plain_order session.now }
+    requires newest { IsNewest (plain_versions session.now) ran.now.newest }
+    requires paper { IsPaperOf session.now.design ran.now.newest }
+    ensures { IfOk result (λ bytes. Made command session.now (Some ran.now.run_log) bytes.items) }
+{
+    match command {
+        Command::Weave => report(alloc, session, &ran.run_log),
+        Command::Trial(number) => {
+            let digest = cloth_digest(alloc, &session.design, &ran.newest)?;
+            trial_line(alloc, number, &ran.run_log, &digest)
+        }
+        _ => unreachable!(),
+    }
+}
