@@ -1,0 +1,16 @@
+//! A tile rebuilt from the lines that cross it: its bound cells from the colours of its picks and columns, and whether a cell of it is
+//! long from their bits.
+#![tactic(auto)]
+
+pub mod bind_job;
+pub mod bit_lines;
+pub mod cells;
+pub mod check_job;
+pub mod colour_lines;
+pub mod job;
+pub mod laws;
+pub mod long_cells;
+pub mod part;
+pub mod parts;
+pub mod rebuild;
+pub mod room;
