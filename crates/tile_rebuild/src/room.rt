@@ -29,6 +29,7 @@ pub struct Room {
 }
 
 impl Room {
+    /// Room for any tile of a design.
     pub fn new(alloc: Global, design: &Design) -> Result<Room, OutOfMemory>
         ensures { IfOk result (λ room. IsRoom (parts_of design.now) room) }
     {
@@ -69,6 +70,7 @@ pub struct BindRows {
 }
 
 impl BindRows {
+    /// Rows for any tile of a design.
     pub fn new(alloc: Global, design: &Design) -> Result<BindRows, OutOfMemory>
         ensures { IfOk result (λ rows. AreRows (parts_of design.now) rows) }
     {
