@@ -5,6 +5,7 @@ pub mod faults;
 pub mod file_shelf;
 mod file_write;
 pub mod gate;
+pub mod held_gate;
 pub mod laws;
 pub mod memory_shelf;
 pub mod memory_sink;
