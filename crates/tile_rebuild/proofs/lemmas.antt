@@ -1,7 +1,9 @@
 pub mod Designs
+pub mod Flags
 pub mod Kept
 pub mod Lists
 pub mod Locality
+pub mod Passes
 pub mod Picks
 pub mod Puts
 pub mod Rebuilt

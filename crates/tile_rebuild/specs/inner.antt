@@ -2,3 +2,4 @@
 pub mod Cells
 pub mod Kept
 pub mod Numbers
+pub mod Passes

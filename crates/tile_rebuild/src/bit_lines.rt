@@ -56,7 +56,7 @@ impl BitLines {
     }
 }
 
-fn copy_picks(part: Part, bits: &BitPaper, out: &mut BitGrid)
+pub(crate) fn copy_picks(part: Part, bits: &BitPaper, out: &mut BitGrid)
     requires part { IsInside bits.now.columns (length bits.now.rows) part }
     requires wide { out.old.width ≡ bits.now.columns }
     requires high { part.height ≤ length out.old.rows }

@@ -1,5 +1,5 @@
 //! A tile rebuilt from the lines that cross it: its bound cells from the colours of its picks and columns, and whether a cell of it is
-//! long from their bits.
+//! long from their bits. And all tiles of a paper at once, in one pass over it.
 #![tactic(auto)]
 
 pub mod bind_job;
@@ -14,3 +14,7 @@ pub mod part;
 pub mod parts;
 pub mod rebuild;
 pub mod room;
+#[cfg(test)]
+mod tests;
+pub mod whole;
+mod whole_long;

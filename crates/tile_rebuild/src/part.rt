@@ -37,7 +37,7 @@ pub fn part_of(design: &Design, tile: u32) -> Part
 }
 
 // How many tiles a line of so many places takes.
-fn tiles_along(places: u32, side: u32) -> u32
+pub(crate) fn tiles_along(places: u32, side: u32) -> u32
     requires places { places ≤ MAX_COLUMNS }
     requires some { 1 ≤ side }
     requires side { side ≤ MAX_COLUMNS }

@@ -232,7 +232,7 @@ fn read_column(design: &Design, part: Part, lines: &ColourLines, a: u32, out: &m
 }
 
 // Puts the marks of a pick into a row, where each column has a colour: position c has the mark of that colour's weave at column c.
-fn put_pick(book: &Book, colours: &[u8], pick: u32, out: &mut BitRow)
+pub(crate) fn put_pick(book: &Book, colours: &[u8], pick: u32, out: &mut BitRow)
     requires cells { length colours.now ≡ length out.old }
     requires colours { All (λ colour. colour < length book.now) colours.now }
     ensures len { length out.new ≡ length out.old }

@@ -34,7 +34,7 @@ use Rattle.tile_rebuild.proofs.lemmas.Designs.{grid_there}
 pub row_line : (grid : GridCells) (row : List Bool) (a n : ℕ) → row ≡ grid_row grid a → length row ≡ n → row ≡ line_by n (λ y. grid_cell grid y a)
 row_line grid row a n is long = line_is false row n (λ y. grid_cell grid y a) long (λ k h. ap (λ (xs : List Bool). get_or xs k false) is)
 
-get_or-long_of : (line : List Bool) (lifted unlifted k : ℕ) → k < length line → get_or (long_of line lifted unlifted) k false ≡ is_long line lifted unlifted k
+pub get_or-long_of : (line : List Bool) (lifted unlifted k : ℕ) → k < length line → get_or (long_of line lifted unlifted) k false ≡ is_long line lifted unlifted k
 get_or-long_of line lifted unlifted k h = get_or-line_by (length line) (is_long line lifted unlifted) k false h
 
 -- the columns of which some end is long along a pick
