@@ -1,0 +1,3 @@
+mod Boards
+mod Keeping
+pub mod lemmas

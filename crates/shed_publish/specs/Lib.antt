@@ -1,0 +1,4 @@
+pub mod Ends
+pub mod inner
+pub mod Seats
+pub mod Versions
