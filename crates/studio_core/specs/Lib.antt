@@ -1,0 +1,9 @@
+pub mod Commits
+pub mod Cores
+pub mod Gives
+pub mod Histories
+pub mod Refusals
+pub mod Takes
+pub mod Texts
+pub mod Touches
+pub mod inner

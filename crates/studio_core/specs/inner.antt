@@ -1,0 +1,5 @@
+-- What only contracts of private functions and types cite.
+pub mod Kept
+pub mod Opened
+pub mod Rooms
+pub mod Touched
