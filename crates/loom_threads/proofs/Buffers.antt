@@ -3,6 +3,8 @@ use Rattle.std.proofs.Common.{◌≡◌, ◌+◌, ◌<◌, ℕ, Bool, List, [], 
 use Rattle.std.specs.List.{concat}
 use Rattle.std.proofs.Math.Seq.{take-append_seam, take-suc}
 use Rattle.mill_base.specs.Bits.{packed}
+use Rattle.mill_base.specs.Lines.{line_by}
+use Rattle.mill_base.proofs.lemmas.Lines.{line_by_more}
 
 -- what a buffer holds once a whole line was put into it
 pub line_read : (len : ℕ) (old put read line : List ℕ) → read ≡ take len (put ++ drop (length put) old) → put ≡ line → length line ≡ len → read ≡ line
@@ -23,3 +25,11 @@ pub packed_more : (rows : List (List Bool)) (k : ℕ) (row : List Bool) → k < 
 packed_more rows k row there is = sym (rw (add-one k, take-suc rows k [] there)
     (ap concat (map-snoc packed (take k rows) (get_or rows k [])) ∙ concat-snoc (map packed (take k rows)) (packed (get_or rows k []))
     ∙ ap (λ r. concat (map packed (take k rows)) ++ packed r) (sym is)))
+
+pub packed_line : (n : ℕ) (row : ℕ → List Bool) → concat (map packed (line_by n row)) ++ packed (row n) ≡ concat (map packed (line_by (n + 1) row))
+packed_line n row = sym (ap (λ (rows : List (List Bool)). concat (map packed rows)) (line_by_more n row) ∙ ap concat (map-snoc packed (line_by n row) (row n)) ∙ concat-snoc (map packed (line_by n row)) (packed (row n)))
+
+-- no rows are packed into no bytes
+pub packed_none : (row : ℕ → List Bool) → [] ≡ concat (map packed (line_by 0 row))
+unfolding line_by
+packed_none row = refl

@@ -1,3 +1,5 @@
 pub mod Cuts
+pub mod Lifts
+pub mod Looms
 pub mod Woven
 pub mod inner

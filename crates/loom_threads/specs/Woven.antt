@@ -11,7 +11,6 @@ use Rattle.draft_model.specs.Cloths.{ClothCells}
 use Rattle.draft_model.specs.Drawdowns.{bound}
 use Rattle.draft_model.specs.declared.design.Design.{Design}
 use Rattle.version_journal.specs.declared.run_log.Repeat.{Repeat}
-use Rattle.loom_threads.specs.declared.weaving.WovenCloth.{WovenCloth}
 
 -- the rows that a loom of a face lifts from the cards of a paper, from pick 0 on
 abbrev pub lifted_rows : Design → Face → PaperCells → List (List Bool)
@@ -28,11 +27,6 @@ digest_of cloth = sha256 (concat (map packed cloth.rows))
 -- the repeat of a cloth
 abbrev pub repeat_of : ℕ → ℕ → Bool → ClothCells → Repeat
 repeat_of shift version shown cloth = record { shift = shift; version = version; digest = digest_of cloth; rows = if shown then Some cloth else None }
-
--- a cloth that a loom of this face lifted from the cards of a paper: its digest, and its rows where they are shown
-pub record IsLifted (design : Design) (shown : Bool) (face : Face) (paper : PaperCells) (woven : WovenCloth) : Type 0 where
-  pub digest : woven.digest ≡ digest_of (lifted design face paper)
-  pub rows : woven.rows ≡ (if shown then Some (lifted design face paper) else None)
 
 -- A loom of this face wove the repeat from one version, from its first pick to its last: its rows are those that the machine lifts from the
 -- version's cards, of which it has the digest, and the rows themselves where they are shown.

@@ -1,1 +1,3 @@
-pub mod Lifts
+pub mod Lifters
+pub mod Weavers
+pub mod WeaverFields

@@ -1,6 +1,11 @@
 //! What looms weave: cloths that are lifted from the cards of a version, their digests, and the law that ties them to the drawdown.
 #![tactic(auto)]
 
+mod counts;
 pub mod digest;
 pub mod laws;
-pub mod weaving;
+mod lifter;
+pub mod loom;
+#[cfg(test)]
+mod tests;
+mod weaver;
