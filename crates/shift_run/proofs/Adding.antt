@@ -12,7 +12,7 @@ use Rattle.mill_base.specs.declared.face.Face.TheVariants.{Up}
 use Rattle.point_paper.specs.Papers.{PaperCells}
 use Rattle.draft_model.specs.declared.design.Design.{Design}
 use Rattle.version_journal.specs.Entries.{is_accepted}
-use Rattle.version_journal.specs.Journals.{ActWithMotif, versions}
+use Rattle.version_journal.specs.Journals.{ActWithMotif, replies, versions}
 use Rattle.version_journal.specs.declared.entry.Entry.{Entry}
 use Rattle.version_journal.specs.declared.run_log.Repeat.{Repeat}
 use Rattle.version_journal.specs.declared.run_log.RunLog.{RunLog}
@@ -21,7 +21,8 @@ use Rattle.loom_threads.specs.Woven.{IsWoven}
 use Rattle.shift_run.specs.Plans.{plan_of}
 use Rattle.shift_run.specs.Logs.{AreBefore, HasNewest, IsCurrent, IsJournal, IsLoomLog, LegalBefore, Merge, accepted_before, entries_of_shift, named_act}
 use Rattle.shift_run.specs.inner.Adds.{AddsEntries, AddsRepeats, AddsShift}
-use Rattle.shift_run.proofs.JournalLaws.{VersionsCount, VersionsStay, versions_grow}
+use Rattle.shift_run.specs.inner.Laws.{VersionsCount, VersionsStay}
+use Rattle.shift_run.proofs.JournalLaws.{versions_grow}
 use Rattle.shift_run.proofs.Lists.{All_mono, All_tail, All_unmap, count_all, count_none, filter_all, filter_none, is_of, kept, not_of, rises}
 
 abbrev pub named_acts : Session → List Entry → List ActWithMotif
@@ -95,7 +96,7 @@ journal_more session before after k j a =
           a.merge)
 
 -- the versions of a journal begin with those of what it began with
-versions_more : VersionsStay → (session : Session) (before new : List Entry) → (rest : List PaperCells)
+pub versions_more : VersionsStay → (session : Session) (before new : List Entry) → (rest : List PaperCells)
     × (versions session.design session.opening (named_acts session (before ++ new)) ≡ versions session.design session.opening (named_acts session before) ++ rest)
 versions_more stay session before new =
     let grown = versions_grow stay session.design session.opening (named_acts session before) (named_acts session new) in
@@ -200,10 +201,22 @@ counts_alike k (e ∷ es) all =
       one : (a b : Bool) → a ≡ b → ◌≡◌ {A = ℕ} (cond a 1 0) (cond b 1 0)
       one a b h = ap (λ c. cond c 1 0) h
 
+-- there is one version more than commits that were accepted, where the replies are those of the acts
+pub entries_versions : VersionsCount → (session : Session) (entries : List Entry) (k : ℕ) → All (λ n. n < k) (map (λ (e : Entry). e.shift) entries)
+    → map (λ (e : Entry). e.reply) entries ≡ replies session.design session.opening (named_acts session entries)
+    → length (versions session.design session.opening (named_acts session entries)) ≡ accepted_before k entries + 1
+entries_versions count session entries k low replied =
+    omega (arith, count session.design session.opening (named_acts session entries), counts_alike k entries low, ap (count_by is_accepted) replied)
+
 -- a journal has one version more than commits that were accepted
 pub journal_versions : VersionsCount → (session : Session) (entries : List Entry) (k : ℕ) → IsJournal session entries k → length (versions session.design session.opening (named_acts session entries)) ≡ accepted_before k entries + 1
-journal_versions count session entries k j =
-    omega (arith, count session.design session.opening (named_acts session entries), counts_alike k entries j.shifts.before, ap (count_by is_accepted) j.replied)
+journal_versions count session entries k j = entries_versions count session entries k j.shifts.before j.replied
+
+-- commits of the shifts before stay counted when entries of a shift are added
+pub accepted_kept : (i k : ℕ) (old after new : List Entry) → after ≡ old ++ new → All (λ e. e.shift ≡ k) new → i ≤ k → accepted_before i after ≡ accepted_before i old
+accepted_kept i k old after new are of_shift low =
+    let none : accepted_before i new ≡ 0 = accepted_none i new (All_mono (λ (n : Entry). n.shift ≡ k) (λ (n : Entry). i ≤ n.shift) new (λ n s. omega arith) of_shift) in
+    omega (arith, ap (accepted_before i) are, accepted_append i old new, none)
 
 -- a repeat that has the newest version of its shift keeps it when the entries of later shifts are added
 pub newest_kept : (session : Session) (before after : List Entry) (k : ℕ) (repeats : List Repeat) → AddsEntries session k before after → All (λ (r : Repeat). r.shift < k) repeats

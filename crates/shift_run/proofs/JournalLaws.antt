@@ -1,19 +1,10 @@
--- The laws of the journal, as they are handed in.
+-- What follows from the laws of the journal.
 use Rattle.std.proofs.Common.{◌≡◌, ◌+◌, List, ◌++◌, length, take, drop, sym, ap, ◌∙◌}
-use Rattle.std.specs.Prelude.{count_by}
 use Rattle.std.proofs.lemmas.List.{take-append-drop}
 use Rattle.point_paper.specs.Papers.{PaperCells}
 use Rattle.draft_model.specs.declared.design.Design.{Design}
-use Rattle.version_journal.specs.Entries.{is_accepted}
-use Rattle.version_journal.specs.Journals.{ActWithMotif, replies, versions}
-
-abbrev pub VersionsStay : Type 0
-VersionsStay = (design : Design) (opening : PaperCells) (one other : List ActWithMotif)
-    → take (length (versions design opening one)) (versions design opening (one ++ other)) ≡ versions design opening one
-
-abbrev pub VersionsCount : Type 0
-VersionsCount = (design : Design) (opening : PaperCells) (acts : List ActWithMotif)
-    → length (versions design opening acts) ≡ count_by is_accepted (replies design opening acts) + 1
+use Rattle.version_journal.specs.Journals.{ActWithMotif, versions}
+use Rattle.shift_run.specs.inner.Laws.{VersionsStay}
 
 -- acts only add versions
 pub versions_grow : VersionsStay → (design : Design) (opening : PaperCells) (one other : List ActWithMotif)

@@ -1,5 +1,9 @@
+pub mod DeskActs
+pub mod Desks
+pub mod Lent
 pub mod Logs
 pub mod Plans
-pub mod Refusals
-pub mod Texts
+pub mod Runs
+pub mod Steps
+pub mod WorkedSteps
 pub mod inner

@@ -1,5 +1,7 @@
 pub mod Adds
-pub mod Benches
-pub mod Desks
-pub mod Runs
+pub mod Foreman
+pub mod Laws
+pub mod Looms
+pub mod Shifts
 pub mod Slots
+pub mod Unread

@@ -1,173 +1,264 @@
-//! The desk: the paper that is painted, its newest version, and the journal.
-ghost use Rattle.std.specs.Prelude.{◌≡◌, ◌+◌, ◌<◌, ◌≤◌, ◌++◌, [], ◌∷◌, true, false, length, All, IfOk, OnOk};
+//! The desk: a core whose versions are published.
+ghost use Rattle.std.specs.Prelude.{◌≡◌, ◌↔◌, ℕ, ◌+◌, ◌<◌, ◌≤◌, ◌++◌, ◌||◌, ◌∷◌, [], false, true, length, replicate, slice_index_or, All, None, Some, IfErr, IfOk, IsOk, IsTrue, OnErr, OnOk};
 ghost use Rattle.mill_base.specs.declared.limits.TheConstants.{MAX_ACTS};
-ghost use Rattle.point_paper.specs.Papers.{IsPaper};
-ghost use Rattle.draft_model.specs.Designs.{Fits as FitsDesign, IsPaperOf};
-ghost use Rattle.strokes.specs.Paints.{after, size_of};
-ghost use Rattle.strokes.specs.Places.{IsThere, motif_of_act};
-ghost use Rattle.strokes.specs.Spans.{IsInside, after_spans};
-ghost use Rattle.version_journal.specs.Journals.{History, committed, is_commit as is_a_commit, step, with_motif};
+ghost use Rattle.draft_model.specs.Drawdowns.{bound};
+ghost use Rattle.draft_model.specs.declared.float_run.FloatRun.{FloatRun};
+ghost use Rattle.version_journal.specs.Entries.{is_accepted};
+ghost use Rattle.version_journal.specs.declared.entry.Reply.TheVariants.{Accepted};
+ghost use Rattle.version_journal.specs.Journals.{begun, float_kept, is_commit as is_a_commit, reply_to_commit};
 ghost use Rattle.session_file.specs.Plans.{Fits, acts_in};
-ghost use Rattle.shift_run.specs.Plans.{acts_of_painter, plan_of as the_plan_of};
-ghost use Rattle.shift_run.specs.inner.Desks.{AreDone, CanWork, Does, IsAt, Stands};
+ghost use Rattle.shed_publish.specs.Versions.{IsPublished};
+ghost use Rattle.tile_grid.specs.Tiles.{tiles};
+ghost use Rattle.tile_marks.specs.Marks.{NoneFrom};
+ghost use Rattle.tile_rebuild.specs.Tiles.{grid_of};
+ghost use Rattle.studio_core.specs.Commits.{settle_steps};
+ghost use Rattle.studio_core.specs.Cores.{IsCore, entry_by};
+ghost use Rattle.studio_core.specs.Histories.{IsAt};
+ghost use Rattle.studio_core.specs.Refusals.{IsStartRefusal};
+ghost use Rattle.studio_core.specs.Touches.{bind_tiles, check_tiles};
+ghost use Rattle.std.specs.Borrow.{sem};
+ghost use Rattle.shift_run.specs.Lent.{LendsEnd};
+ghost use Rattle.shift_run.specs.DeskActs.{AreMarked, Commits, GoesTo, IsLeft, MakesNewest, act_of, list_after, paper_of, reply_of};
+ghost use Rattle.shift_run.specs.Desks.{IsDesk, IsReady, IsUnpublished, Stands, new_core, new_list};
 
-use crate::plans::{acts_of, plan_of};
-use draft_model::design::Design;
-use draft_model::drawdown::bound;
-use draft_model::first_float::first_float;
 use mill_base::memory::OutOfMemory;
-use point_paper::paper::{Paper, Span};
+use mill_base::steps::Steps;
 use session_file::counts::count_acts;
 use session_file::session::Session;
+use shed_publish::desk_end::{DeskEnd, desk_end};
+use shed_publish::newest::Newest;
+use shed_publish::told::Told;
 use std::alloc::Global;
+use std::sync::ledger::Ledger;
+use std::sync::{Arc, Wait};
 use strokes::act::Act;
 use strokes::prepared::Prepared;
-use version_journal::entry::{Entry, Reply};
-use version_journal::journal::Journal;
+use studio_core::refusal::StartRefusal;
+use studio_core::tile_core::Core;
+use version_journal::entry::Reply;
 
-/// The paper that is painted, its newest version with the number of it, and the journal, which has room for all acts.
-#[derive(Drop)]
+/// A core and the end that publishes its versions. It is not `Drop`: `close` ends it.
 pub struct Desk {
-    pub paper: Paper,
-    pub newest: Paper,
-    pub version: u32,
-    pub journal: Journal,
+    pub core: Core,
+    pub end: DeskEnd,
 }
 
-/// The desk of a session before the first act.
-pub fn start(alloc: Global, session: &Session) -> Result<Desk, OutOfMemory>
-    requires { Fits session.now }
-    ensures acts { IfOk result (AreDone session.now 0) }
-    ensures version { IfOk result (λ desk. desk.version ≡ 0) }
-{
-    let journal = Journal::new(alloc, count_acts(session.shifts.as_slice()) as u32)?;
-    Ok(Desk {
-        paper: session.opening.copy()?,
-        newest: session.opening.copy()?,
-        version: 0,
-        journal,
-    })
-}
-
-/// Does an act of a painter, which is told by its place among the painter's acts of the shift, from 0 on.
-pub fn act(
-    alloc: Global,
-    session: &Session,
-    shift: u32,
-    painter: u32,
-    place: u32,
-    desk: &mut Desk,
-) -> Result<(), OutOfMemory>
-    requires fits { Fits session.now }
-    requires shift { shift < length session.now.shifts }
-    requires painter { painter < length (the_plan_of session.now shift).painters }
-    requires place { place < length (acts_of_painter (the_plan_of session.now shift) painter) }
-    requires works { CanWork session.now desk.old }
-    requires room { 0 < desk.old.journal.spare }
-    ensures { OnOk result (Does session.now (record { shift = shift; painter = painter; number = place + 1 } ∷ []) desk.old desk.new) }
-{
-    version_journal::laws::acts_go_on_from_where_others_ended();
-    let act = acts_of(plan_of(session, shift), painter)[place as usize];
-    let reply = do_act(alloc, session, &act, desk)?;
-    desk.journal.push(Entry {
-        shift,
-        painter,
-        number: place + 1,
-        reply,
-    });
-    Ok(())
-}
-
-// Does an act; it has no entry yet.
-fn do_act(
-    alloc: Global,
-    session: &Session,
-    act: &Act,
-    desk: &mut Desk,
-) -> Result<Reply, OutOfMemory>
-    requires fits { Fits session.now }
-    requires there { IsThere (length session.now.design.book) session.now.design.size session.now.motifs act.now }
-    requires works { CanWork session.now desk.old }
-    requires room { desk.old.version < MAX_ACTS }
-    ensures journal { desk.new.journal ≡ desk.old.journal }
-    ensures reply { IfOk result (λ reply. (h : History) → IsAt h desk.old.paper desk.old.newest desk.old.version
-        → IsAt (step session.now.design h (with_motif session.now.motifs act.now)) desk.new.paper desk.new.newest desk.new.version
-        × ((step session.now.design h (with_motif session.now.motifs act.now)).replies ≡ h.replies ++ reply ∷ [])) }
-    ensures paper { OnOk result (IsPaperOf session.now.design desk.new.paper) }
-    ensures newest { OnOk result (IsPaperOf session.now.design desk.new.newest) }
-    ensures version { OnOk result ((desk.old.version ≤ desk.new.version) × (desk.new.version ≤ desk.old.version + 1)) }
-    ensures same { OnOk result (desk.new.version ≡ desk.old.version → desk.new.newest ≡ desk.old.newest) }
-{
-    if is_commit(act) {
-        return commit(alloc, &session.design, desk);
+impl Desk {
+    /// A desk of the session, with its opening as version 0, which is published, and room for the session's acts. The opening is refused
+    /// where its bound paper keeps a float over its limit, with the first one. It waits by its type, since it publishes; no loom reads
+    /// yet, so it returns at once.
+    pub fn start<R: Wait>(rt: &R, alloc: Global, session: &Session) -> Result<Desk, StartRefusal>
+        requires { Fits session.now }
+        ensures core { IfOk result (λ desk. desk.core ≡ new_core session.now 0) }
+        ensures end { IfOk result (λ desk. desk.end ≡ record { list = new_list session.now; refused = 0 }) }
+        ensures stands { IfOk result (Stands session.now) }
+        ensures ready { IfOk result IsReady }
+        ensures sound { OnOk result (float_kept session.now.design session.now.opening ≡ None) }
+        ensures refusal { IfErr result (IsStartRefusal session.now.design session.now.opening) }
+    {
+        Desk::start_with(rt, alloc, session, 0)
     }
-    paint(alloc, session, act, &mut desk.paper)?;
-    Ok(Reply::Painted)
+
+    /// The same with room for so many further acts.
+    pub fn start_with<R: Wait>(
+        rt: &R,
+        alloc: Global,
+        session: &Session,
+        spare: u32,
+    ) -> Result<Desk, StartRefusal>
+        requires fits { Fits session.now }
+        requires few { acts_in session.now.shifts + spare ≤ MAX_ACTS }
+        ensures core { IfOk result (λ desk. desk.core ≡ new_core session.now spare) }
+        ensures end { IfOk result (λ desk. desk.end ≡ record { list = new_list session.now; refused = 0 }) }
+        ensures stands { IfOk result (Stands session.now) }
+        ensures ready { IfOk result IsReady }
+        ensures sound { OnOk result (float_kept session.now.design session.now.opening ≡ None) }
+        ensures refusal { IfErr result (IsStartRefusal session.now.design session.now.opening) }
+    {
+        let core = start_core(alloc, session, spare)?;
+        let end = first_end(rt, alloc, &core, session.looms)?;
+        Ok(Desk { core, end })
+    }
+
+    /// Does an act of a painter, and publishes its version where it was accepted. A paint takes no memory, and neither does a commit that
+    /// is refused. It may wait for a loom that is in the middle of a reading.
+    pub fn act<R: Wait, L: Ledger>(
+        &mut self,
+        rt: &R,
+        shift: u32,
+        painter: u32,
+        number: u32,
+        act: &Prepared,
+        steps: &mut Steps<L>,
+    ) -> Result<Reply, OutOfMemory>
+        requires spare { 0 < self.old.core.spare }
+        requires size { act.now.size ≡ self.old.core.design.size }
+        requires colours { All (λ span. span.colour < length self.old.core.design.book) act.now.spans }
+        requires ready { IsReady self.old }
+        ensures reply { IfOk result (λ reply. reply ≡ reply_of self.old.core act.now) }
+        ensures paper { self.new.core.paper ≡ paper_of self.old.core act.now }
+        ensures entries { IfOk result (λ reply. self.new.core.entries ≡ self.old.core.entries ++ entry_by shift painter number reply ∷ []) }
+        ensures spare { OnOk result (self.new.core.spare + 1 ≡ self.old.core.spare) }
+        ensures newest { IfOk result (λ reply. MakesNewest reply self.old.core self.new.core) }
+        ensures list { IfOk result (λ reply. self.new.end ≡ record self.old.end { list = list_after reply self.new.core self.old.end.list }) }
+        ensures at { IfOk result (GoesTo self.old.core self.new.core (act_of act.now)) }
+        ensures ready { OnOk result (IsReady self.new) }
+        ensures left { OnErr result (IsLeft (entry_by shift painter number (Accepted (self.old.core.version + 1))) self.old self.new) }
+        ensures desk { IsDesk self.new }
+        ensures sure { is_a_commit act.now.act ≡ false → IsOk result }
+        ensures refused { (float : FloatRun) → float_kept self.old.core.design self.old.core.paper ≡ Some float → IsOk result }
+        ensures marks { AreMarked act.now self.old.core self.new.core }
+        ensures kept { (self.new.core.design ≡ self.old.core.design) × (self.new.core.installed ≡ self.old.core.installed) }
+        ensures later { steps.old ≤ steps.new }
+        ensures most { steps.new ≤ steps.old + settle_steps self.old.core }
+    {
+        if is_commit(act.act()) {
+            return self.commit(rt, shift, painter, number, steps);
+        }
+        self.core.paint(shift, painter, number, act);
+        Ok(Reply::Painted)
+    }
+
+    // Settles and replies to a commit, and publishes an accepted version.
+    fn commit<R: Wait, L: Ledger>(
+        &mut self,
+        rt: &R,
+        shift: u32,
+        painter: u32,
+        number: u32,
+        steps: &mut Steps<L>,
+    ) -> Result<Reply, OutOfMemory>
+        requires spare { 0 < self.old.core.spare }
+        requires ready { IsReady self.old }
+        ensures reply { IfOk result (λ reply. reply ≡ reply_to_commit (self.old.core.version + 1) (float_kept self.old.core.design self.old.core.paper)) }
+        ensures paper { self.new.core.paper ≡ self.old.core.paper }
+        ensures entries { IfOk result (λ reply. self.new.core.entries ≡ self.old.core.entries ++ entry_by shift painter number reply ∷ []) }
+        ensures spare { OnOk result (self.new.core.spare + 1 ≡ self.old.core.spare) }
+        ensures newest { IfOk result (λ reply. MakesNewest reply self.old.core self.new.core) }
+        ensures list { IfOk result (λ reply. self.new.end ≡ record self.old.end { list = list_after reply self.new.core self.old.end.list }) }
+        ensures at { IfOk result (Commits self.old.core self.new.core) }
+        ensures ready { OnOk result (IsReady self.new) }
+        ensures left { OnErr result (IsLeft (entry_by shift painter number (Accepted (self.old.core.version + 1))) self.old self.new) }
+        ensures desk { IsDesk self.new }
+        ensures refused { (float : FloatRun) → float_kept self.old.core.design self.old.core.paper ≡ Some float → IsOk result }
+        ensures settled { NoneFrom self.new.core.bind 0 × NoneFrom self.new.core.check 0 × (self.new.core.bits ≡ bound self.old.core.design self.old.core.paper) }
+        ensures kept { (self.new.core.design ≡ self.old.core.design) × (self.new.core.installed ≡ self.old.core.installed) }
+        ensures later { steps.old ≤ steps.new }
+        ensures most { steps.new ≤ steps.old + settle_steps self.old.core }
+    {
+        let reply = self.core.commit(shift, painter, number, steps)?;
+        know_core(&self.core);
+        publish_reply(rt, &reply, &self.core, &mut self.end)?;
+        Ok(reply)
+    }
+
+    /// The core.
+    pub fn core(&self) -> &Core
+        ensures { result.now ≡ self.now.core }
+    {
+        &self.core
+    }
+
+    /// Whether the newest version of the core is not published, which comes of memory that was refused in `act`.
+    pub fn unpublished(&self) -> bool
+        ensures { IsTrue result ↔ IsUnpublished self.now }
+    {
+        self.end.version() < self.core.version()
+    }
+
+    /// What a loom's end learns: the list that is published now.
+    pub fn told(&mut self) -> Told<'_>
+        ensures* lends { sem 𝓛 (LendsEnd self.entry result.desk) }
+        ensures list { result.desk.now ≡ self.old.end }
+    {
+        self.end.tell()
+    }
+
+    /// Ends the desk, and lets the core go. It may wait for a loom that is in the middle of a reading.
+    pub fn close<R: Wait>(self, rt: &R) {
+        let Desk { core: _core, end } = self;
+        end.close(rt);
+    }
 }
 
+// The core of a session before the first act, with room for its acts and so many more.
+fn start_core(alloc: Global, session: &Session, spare: u32) -> Result<Core, StartRefusal>
+    requires fits { Fits session.now }
+    requires few { acts_in session.now.shifts + spare ≤ MAX_ACTS }
+    ensures core { IfOk result (λ core. core ≡ new_core session.now spare) }
+    ensures at { IfOk result (IsAt (begun session.now.opening)) }
+    ensures sound { OnOk result (float_kept session.now.design session.now.opening ≡ None) }
+    ensures refusal { IfErr result (IsStartRefusal session.now.design session.now.opening) }
+{
+    let acts = count_acts(session.shifts.as_slice()) as u32 + spare;
+    let design = session.design.copy()?;
+    let opening = session.opening.copy()?;
+    Core::start(alloc, design, opening, acts)
+}
+
+// The end of a desk whose core has version 0 alone.
+fn first_end<R: Wait>(
+    rt: &R,
+    alloc: Global,
+    core: &Core,
+    looms: u32,
+) -> Result<DeskEnd, OutOfMemory>
+    requires { 1 ≤ looms }
+    ensures { IfOk result (λ end. end ≡ record { list = record { version = 0; cards = core.now.cards } ∷ []; refused = 0 }) }
+{
+    let cards = Arc::clone(core.newest_cards())?;
+    desk_end(rt, alloc, Newest { version: 0, cards }, looms)
+}
+
+// Publishes the version of an accepted commit. Where the commit was refused there is nothing to publish.
+fn publish_reply<R: Wait>(
+    rt: &R,
+    reply: &Reply,
+    core: &Core,
+    end: &mut DeskEnd,
+) -> Result<(), OutOfMemory>
+    requires { IsPublished (list_after reply.now core.now end.old.list) }
+    ensures ok { OnOk result (end.new ≡ record end.old { list = list_after reply.now core.now end.old.list }) }
+    ensures err { OnErr result (end.new ≡ end.old) }
+    ensures accepted { OnErr result (is_accepted reply.now ≡ true) }
+{
+    match reply {
+        Reply::Accepted(_) => publish_newest(rt, core, end),
+        _ => Ok(()),
+    }
+}
+
+// Publishes the newest version of a core.
+fn publish_newest<R: Wait>(rt: &R, core: &Core, end: &mut DeskEnd) -> Result<(), OutOfMemory>
+    requires { IsPublished (end.old.list ++ record { version = core.now.version; cards = core.now.cards } ∷ []) }
+    ensures ok { OnOk result (end.new ≡ record end.old { list = end.old.list ++ record { version = core.now.version; cards = core.now.cards } ∷ [] }) }
+    ensures err { OnErr result (end.new ≡ end.old) }
+{
+    let cards = Arc::clone(core.newest_cards())?;
+    let version = core.version();
+    end.publish(rt, Newest { version, cards })
+}
+
+// Whether the act is a commit.
 fn is_commit(act: &Act) -> bool
     ensures { result ≡ is_a_commit act.now }
 {
     matches!(act, Act::Commit)
 }
 
-// Makes the paper the newest version, if its bound paper keeps no float over its limit.
-fn commit(alloc: Global, design: &Design, desk: &mut Desk) -> Result<Reply, OutOfMemory>
-    requires fits { FitsDesign design.now }
-    requires paper { IsPaperOf design.now desk.old.paper }
-    requires room { desk.old.version < MAX_ACTS }
-    ensures journal { desk.new.journal ≡ desk.old.journal }
-    ensures paper { desk.new.paper ≡ desk.old.paper }
-    ensures reply { IfOk result (λ reply. (h : History) → IsAt h desk.old.paper desk.old.newest desk.old.version
-        → IsAt (committed design.now h) desk.new.paper desk.new.newest desk.new.version
-        × ((committed design.now h).replies ≡ h.replies ++ reply ∷ [])) }
-    ensures newest { OnOk result (IsPaperOf design.now desk.old.newest → IsPaperOf design.now desk.new.newest) }
-    ensures version { OnOk result ((desk.old.version ≤ desk.new.version) × (desk.new.version ≤ desk.old.version + 1)) }
-    ensures same { OnOk result (desk.new.version ≡ desk.old.version → desk.new.newest ≡ desk.old.newest) }
+// Tells a proof what holds of every core.
+fn know_core(core: &Core)
+    ensures { IsCore core.now }
 {
-    let bits = bound(alloc, design, &desk.paper)?;
-    if let Some(float) = first_float(design, &bits) {
-        return Ok(Reply::Refused(float));
-    }
-    let newest = desk.paper.copy()?;
-    desk.newest = newest;
-    desk.version += 1;
-    Ok(Reply::Accepted(desk.version))
+    let _ = core.design();
 }
 
-// Paints what the act paints.
-fn paint(alloc: Global, session: &Session, act: &Act, paper: &mut Paper) -> Result<(), OutOfMemory>
+/// Tells a proof that a desk with all its versions published can do acts.
+pub(crate) fn know_ready(session: &Session, desk: &Desk)
     requires fits { Fits session.now }
-    requires there { IsThere (length session.now.design.book) session.now.design.size session.now.motifs act.now }
-    requires paper { IsPaperOf session.now.design paper.old }
-    requires paints { is_a_commit act.now ≡ false }
-    ensures painted { OnOk result (paper.new ≡ after (motif_of_act session.now.motifs act.now) paper.old act.now) }
-    ensures paper { OnOk result (IsPaperOf session.now.design paper.new) }
+    requires stands { Stands session.now desk.now }
+    ensures { IsReady desk.now }
 {
-    strokes::laws::the_motif_of_an_act_is_one_of_the_motifs();
-    strokes::laws::the_spans_of_an_act_paint_it();
-    version_journal::laws::a_paint_changes_the_paper();
     version_journal::laws::acts_of_the_design_paint_colours_of_its_book();
     version_journal::laws::versions_are_papers_of_the_design();
-    know_cells(paper);
-    let prepared = Prepared::of(alloc, act, &session.motifs, session.design.size)?;
-    paint_spans(prepared.spans(), paper);
-    Ok(())
-}
-
-// Tells a proof that the paper has a colour in each cell, and no others.
-fn know_cells(paper: &Paper)
-    ensures { IsPaper paper.now }
-{
-    let _ = paper.size();
-}
-
-// Paints spans one after another.
-fn paint_spans(spans: &[Span], paper: &mut Paper)
-    requires { All (IsInside (size_of paper.old)) spans.now }
-    ensures { paper.new ≡ after_spans paper.old spans.now }
-{
-    for span in spans {
-        paper.paint_span(span);
-    }
 }

@@ -1,11 +1,16 @@
-//! The run of a session: all acts of a shift, then the repeats of its looms, shift after shift.
+//! The run of a session. In each shift painters mail their acts, the foreman paints, commits and publishes, and looms weave, all at once;
+//! whatever schedule comes, the log is a legal one.
 #![tactic(auto)]
 
-mod bench;
-mod desk;
+pub mod alone;
+pub mod desk;
+mod foreman;
+pub mod laws;
+pub mod looms;
+mod mail;
 mod plans;
-pub mod refusal;
 pub mod run;
-mod shift;
+pub mod shift;
 #[cfg(test)]
 mod tests;
+mod unread;

@@ -1,144 +1,221 @@
-//! The run of a session on one thread: shift by shift, first all acts in plain order, and then each loom's repeats with the newest version.
-ghost use Rattle.std.specs.Prelude.{◌≡◌, ◌+◌, ◌<◌, [], map, length, replicate, None, All, IfOk, IfErr, OnOk};
+//! The run of a session, shift by shift.
+ghost use Rattle.std.specs.Prelude.{◌≡◌, ◌+◌, ◌<◌, [], false, length, map, None, IfErr, IfOk, OnOk};
+ghost use Rattle.std.specs.Arc.{arc_value};
 ghost use Rattle.draft_model.specs.Designs.{IsPaperOf};
 ghost use Rattle.version_journal.specs.Journals.{float_kept};
 ghost use Rattle.session_file.specs.Plans.{Fits};
-ghost use Rattle.shift_run.specs.Logs.{HasNewest, Legal, named_act};
-ghost use Rattle.shift_run.specs.Plans.{IsNewest, plain_order, plain_versions};
-ghost use Rattle.shift_run.specs.Refusals.{IsStartRefusal};
-ghost use Rattle.shift_run.specs.inner.Desks.{AreDone};
-ghost use Rattle.shift_run.specs.inner.Runs.{IsAtShift};
+ghost use Rattle.studio_core.specs.Refusals.{IsStartRefusal};
+ghost use Rattle.loom_threads.specs.Looms.{IsLoomOf, LoomValue, repeats_of};
+ghost use Rattle.shift_run.specs.Desks.{Stands, new_core};
+ghost use Rattle.shift_run.specs.Logs.{Legal};
+ghost use Rattle.shift_run.specs.Plans.{IsNewest, plain_versions};
+ghost use Rattle.shift_run.specs.Runs.{AreCardsOfNewest, AreNew, IsAtShift, IsSeated};
 
-use crate::bench::{self, Bench, turn_to};
-use crate::desk::{self, Desk};
-use crate::refusal::RunRefusal;
-use crate::shift::{do_acts, weave_shift};
+use crate::desk::Desk;
+use crate::shift::{ShiftEnd, know_core, run_shift};
+use crate::unread;
+use card_image::card_set::CardSet;
 use draft_model::drawdown::bound;
 use draft_model::first_float::first_float;
+use loom_threads::loom::Loom;
 use mill_base::listed::Listed;
 use mill_base::memory::OutOfMemory;
+use mill_io::gate::Gate;
 use point_paper::paper::Paper;
 use session_file::session::Session;
 use std::alloc::Global;
+use std::marker::Brand;
+use std::sync::ledger::Blank;
+use std::sync::{Arc, Wait};
+use std::thread::Threads;
+use studio_core::refusal::StartRefusal;
 use version_journal::run_log::{Repeat, RunLog};
 
-/// What a run leaves: its log, and the paper of the newest version.
+/// What a run leaves: its log, and the cards of the newest version.
 #[derive(Drop)]
 pub struct Ran {
     pub run_log: RunLog,
-    pub newest: Paper,
+    pub newest: Arc<CardSet>,
 }
 
-/// Runs the session. In each shift all acts are done in plain order, and then each loom weaves its repeats with the version that is newest
-/// by then. A cloth is lifted and digested once for each version and face.
-pub fn run_session(alloc: Global, session: &Session) -> Result<Ran, RunRefusal>
+impl Desk {
+    /// A loom of the session, with a place of this desk where one is free. It has room for all its repeats.
+    pub fn loom(
+        &mut self,
+        alloc: Global,
+        session: &Session,
+        number: u32,
+    ) -> Result<Loom, OutOfMemory>
+        requires fits { Fits session.now }
+        requires number { number < session.now.looms }
+        ensures kind { IfOk result (IsLoomOf session.now number) }
+        ensures repeats { IfOk result (λ loom. loom.repeats ≡ []) }
+        ensures spare { IfOk result (λ loom. loom.spare ≡ repeats_of session.now number) }
+        ensures seat { IfOk result (λ loom. IsSeated self.old.end.refused self.new.end.refused loom.end) }
+        ensures desk { self.new ≡ record self.old { end = record self.old.end { refused = self.new.end.refused } } }
+    {
+        let seat = self.end.seat();
+        Loom::new(alloc, session, number, seat)
+    }
+}
+
+/// Runs the session, shift by shift. In each shift painters, the foreman and looms go on at the same time, and whatever schedule comes, the
+/// log is a legal one.
+pub fn run_session<R: Threads + Wait + Sync, G: Gate>(
+    rt: &R,
+    alloc: Global,
+    session: &Session,
+    gate: &G,
+) -> Result<Ran, StartRefusal>
     requires { Fits session.now }
     ensures legal { IfOk result (λ ran. Legal session.now ran.run_log) }
-    ensures plain { IfOk result (λ ran. map (named_act session.now) ran.run_log.entries ≡ plain_order session.now) }
-    ensures newest_repeats { IfOk result (λ ran. All (All (HasNewest ran.run_log.entries)) ran.run_log.looms) }
-    ensures newest { IfOk result (λ ran. IsNewest (plain_versions session.now) ran.newest) }
-    ensures paper { IfOk result (λ ran. IsPaperOf session.now.design ran.newest) }
+    ensures newest { IfOk result (λ ran. AreCardsOfNewest session.now ran.run_log.entries (arc_value ran.newest)) }
     ensures sound { OnOk result (float_kept session.now.design session.now.opening ≡ None) }
-    ensures refusal { IfErr result (IsStartRefusal session.now) }
+    ensures refusal { IfErr result (IsStartRefusal session.now.design session.now.opening) }
 {
-    check_opening(alloc, session)?;
-    let ran = run_shifts(alloc, session)?;
+    let desk = Desk::start(rt, alloc, session)?;
+    let ran = run_from(rt, alloc, session, desk, gate)?;
     Ok(ran)
 }
 
-/// The newest version once all acts were done in plain order. No repeat is woven.
-pub fn last_paper(alloc: Global, session: &Session) -> Result<Paper, RunRefusal>
+// All shifts from the desk that was started.
+fn run_from<R: Threads + Wait + Sync, G: Gate>(
+    rt: &R,
+    alloc: Global,
+    session: &Session,
+    desk: Desk,
+    gate: &G,
+) -> Result<Ran, OutOfMemory>
+    requires fits { Fits session.now }
+    requires core { desk.core ≡ new_core session.now 0 }
+    requires stands { Stands session.now desk }
+    ensures legal { IfOk result (λ ran. Legal session.now ran.run_log) }
+    ensures newest { IfOk result (λ ran. AreCardsOfNewest session.now ran.run_log.entries (arc_value ran.newest)) }
+{
+    let mut desk = desk;
+    let Ok(looms) = start_looms(alloc, session, &mut desk) else {
+        desk.close(rt);
+        return Err(OutOfMemory);
+    };
+    let ShiftEnd {
+        desk,
+        looms,
+        out_of_memory,
+    } = run_shifts(rt, alloc, session, desk, looms, gate);
+    let ran = if out_of_memory {
+        Err(OutOfMemory)
+    } else {
+        ran_of(alloc, session, &desk, looms)
+    };
+    desk.close(rt);
+    ran
+}
+
+/// The looms of a session.
+pub(crate) fn start_looms(
+    alloc: Global,
+    session: &Session,
+    desk: &mut Desk,
+) -> Result<Vec<Loom>, OutOfMemory>
+    requires { Fits session.now }
+    ensures looms { IfOk result (λ looms. AreNew session.now session.now.looms looms.items) }
+    ensures core { desk.new.core ≡ desk.old.core }
+    ensures list { desk.new.end.list ≡ desk.old.end.list }
+{
+    let mut looms = Vec::new(alloc);
+    'looms: for number in 0..session.looms {
+        looms.push(desk.loom(alloc, session, number)?)?;
+    }
+    Ok(looms)
+}
+
+// All shifts, or those that memory sufficed for.
+fn run_shifts<R: Threads + Wait + Sync, G: Gate>(
+    rt: &R,
+    alloc: Global,
+    session: &Session,
+    desk: Desk,
+    looms: Vec<Loom>,
+    gate: &G,
+) -> ShiftEnd
+    requires fits { Fits session.now }
+    requires start { IsAtShift session.now 0 desk looms.items }
+    ensures { result.out_of_memory ≡ false → IsAtShift session.now (length session.now.shifts) result.desk result.looms.items }
+{
+    let mut end = ShiftEnd {
+        desk,
+        looms,
+        out_of_memory: false,
+    };
+    'shifts: for shift in 0..session.shifts.len() as u32 {
+        let ShiftEnd {
+            desk,
+            looms,
+            out_of_memory: _,
+        } = end;
+        end = run_shift(rt, alloc, desk, looms, session, shift, gate);
+        if end.out_of_memory {
+            return end;
+        }
+    }
+    end
+}
+
+// What is kept of a run.
+fn ran_of(
+    alloc: Global,
+    session: &Session,
+    desk: &Desk,
+    looms: Vec<Loom>,
+) -> Result<Ran, OutOfMemory>
+    requires { IsAtShift session.now (length session.now.shifts) desk.now looms.items }
+    ensures legal { IfOk result (λ ran. Legal session.now ran.run_log) }
+    ensures newest { IfOk result (λ ran. AreCardsOfNewest session.now ran.run_log.entries (arc_value ran.newest)) }
+{
+    know_core(&desk.core);
+    let newest = Arc::clone(desk.core.newest_cards())?;
+    let entries = Listed::of(Vec::from_slice(alloc, desk.core.entries())?);
+    let looms = repeats_of_all(alloc, looms)?;
+    Ok(Ran {
+        run_log: RunLog { entries, looms },
+        newest,
+    })
+}
+
+// What the looms wove.
+fn repeats_of_all(alloc: Global, looms: Vec<Loom>) -> Result<Listed<Listed<Repeat>>, OutOfMemory>
+    ensures { IfOk result (λ all. all ≡ map (λ loom. loom.repeats) looms.items) }
+{
+    let mut all = Listed::new(alloc);
+    'looms: for loom in looms {
+        all.push(loom.into_repeats())?;
+    }
+    Ok(all)
+}
+
+/// The newest version once all acts were done in plain order. No repeat is woven, no thread is started, and nothing waits.
+pub fn last_paper(alloc: Global, session: &Session) -> Result<Paper, StartRefusal>
     requires { Fits session.now }
     ensures newest { IfOk result (IsNewest (plain_versions session.now)) }
     ensures paper { IfOk result (IsPaperOf session.now.design) }
     ensures sound { OnOk result (float_kept session.now.design session.now.opening ≡ None) }
-    ensures refusal { IfErr result (IsStartRefusal session.now) }
+    ensures refusal { IfErr result (IsStartRefusal session.now.design session.now.opening) }
 {
-    check_opening(alloc, session)?;
-    let desk = do_shifts(alloc, session)?;
-    Ok(desk.newest)
+    let mut last = unread::start(alloc, session)?;
+    unread::do_shifts::<Brand>(alloc, session, &mut last, Blank::new(1))?;
+    Ok(last.newest)
 }
 
 /// Refuses a session whose opening's bound paper keeps a float over its limit.
-pub fn check_opening(alloc: Global, session: &Session) -> Result<(), RunRefusal>
+pub fn check_opening(alloc: Global, session: &Session) -> Result<(), StartRefusal>
     requires { Fits session.now }
     ensures sound { OnOk result (float_kept session.now.design session.now.opening ≡ None) }
-    ensures refusal { IfErr result (IsStartRefusal session.now) }
+    ensures refusal { IfErr result (IsStartRefusal session.now.design session.now.opening) }
 {
     let bits = bound(alloc, &session.design, &session.opening)?;
     let float = first_float(&session.design, &bits);
     match float {
         None => Ok(()),
-        Some(float) => Err(RunRefusal::OpeningFloat(float)),
+        Some(float) => Err(StartRefusal::OpeningFloat(float)),
     }
-}
-
-// All shifts: their acts, and their repeats.
-fn run_shifts(alloc: Global, session: &Session) -> Result<Ran, OutOfMemory>
-    requires { Fits session.now }
-    ensures legal { IfOk result (λ ran. Legal session.now ran.run_log) }
-    ensures plain { IfOk result (λ ran. map (named_act session.now) ran.run_log.entries ≡ plain_order session.now) }
-    ensures newest_repeats { IfOk result (λ ran. All (All (HasNewest ran.run_log.entries)) ran.run_log.looms) }
-    ensures newest { IfOk result (λ ran. IsNewest (plain_versions session.now) ran.newest) }
-    ensures paper { IfOk result (λ ran. IsPaperOf session.now.design ran.newest) }
-{
-    let mut desk = desk::start(alloc, session)?;
-    let mut bench = bench::start(alloc, &session.design)?;
-    let mut looms = start_looms(alloc, session.looms)?;
-    'shifts: for shift in 0..session.shifts.len() as u32 {
-        run_shift(alloc, session, shift, &mut desk, &mut bench, &mut looms)?;
-    }
-    let entries = Vec::from_slice(alloc, desk.journal.entries())?;
-    Ok(Ran {
-        run_log: RunLog {
-            entries: Listed::of(entries),
-            looms: Listed::of(looms),
-        },
-        newest: desk.newest,
-    })
-}
-
-// Looms that have woven nothing.
-fn start_looms(alloc: Global, count: u32) -> Result<Vec<Listed<Repeat>>, OutOfMemory>
-    ensures { IfOk result (λ looms. looms.items ≡ replicate count []) }
-{
-    let mut looms = Vec::new(alloc);
-    'looms: for _ in 0..count {
-        looms.push(Listed::new(alloc))?;
-    }
-    Ok(looms)
-}
-
-// One shift: its acts, and its repeats.
-fn run_shift(
-    alloc: Global,
-    session: &Session,
-    shift: u32,
-    desk: &mut Desk,
-    bench: &mut Bench,
-    looms: &mut Vec<Listed<Repeat>>,
-) -> Result<(), OutOfMemory>
-    requires fits { Fits session.now }
-    requires shift { shift < length session.now.shifts }
-    requires before { IsAtShift session.now shift desk.old bench.old looms.old.items }
-    ensures { OnOk result (IsAtShift session.now (shift + 1) desk.new bench.new looms.new.items) }
-{
-    version_journal::laws::acts_go_on_from_where_others_ended();
-    version_journal::laws::each_accepted_commit_makes_a_version();
-    do_acts(alloc, session, shift, desk)?;
-    turn_to(bench, desk.version);
-    weave_shift(alloc, session, shift, desk, bench, looms)?;
-    Ok(())
-}
-
-// The acts of all shifts alone.
-fn do_shifts(alloc: Global, session: &Session) -> Result<Desk, OutOfMemory>
-    requires { Fits session.now }
-    ensures { IfOk result (AreDone session.now (length session.now.shifts)) }
-{
-    let mut desk = desk::start(alloc, session)?;
-    'shifts: for shift in 0..session.shifts.len() as u32 {
-        do_acts(alloc, session, shift, &mut desk)?;
-    }
-    Ok(desk)
 }

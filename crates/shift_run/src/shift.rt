@@ -1,101 +1,304 @@
-//! A shift on one thread: all acts in plain order, and then each loom's repeats with the newest version.
-ghost use Rattle.std.specs.Prelude.{◌≡◌, ◌+◌, ◌<◌, ◌≤◌, ℕ, [], ◌++◌, length, slice_index_or, sum_by, OnOk};
+//! A shift: painters, the foreman and looms go on at the same time.
+ghost use Rattle.std.specs.Prelude.{◌≡◌, ◌+◌, ◌<◌, ◌≤◌, false, true, [], length};
+ghost use Rattle.std.specs.Thread.{IsSync};
+ghost use Rattle.std.specs.Vec.{vec_capacity};
+ghost use Rattle.casting_out.specs.Castings.{IsCasting};
+ghost use Rattle.crossbeam_channel.specs.Claims.{IsSeatAt};
+ghost use Rattle.crossbeam_channel.specs.Ends.{receives_on};
 ghost use Rattle.session_file.specs.Plans.{Fits};
-ghost use Rattle.shift_run.specs.Plans.{acts_of_painter, plan_of as the_plan_of};
-ghost use Rattle.shift_run.specs.inner.Benches.{IsBench, shift_repeats};
-ghost use Rattle.shift_run.specs.inner.Desks.{CanWork, Does};
-ghost use Rattle.shift_run.specs.inner.Slots.{painter_slots, plan_slots};
+ghost use Rattle.shed_publish.specs.Versions.{IsPublished};
+ghost use Rattle.studio_core.specs.Cores.{IsCore};
+ghost use Rattle.shift_run.specs.Desks.{IsReady};
+ghost use Rattle.shift_run.specs.Plans.{plan_of as the_plan_of};
+ghost use Rattle.shift_run.specs.Runs.{GoesOnFrom, HaveRead, IsAtShift, IsCutShort, log_of};
+ghost use Rattle.shift_run.specs.inner.Foreman.{Directs, acts_of_shift};
+ghost use Rattle.shift_run.specs.inner.Looms.{AllCanFinish, AllCanWeave, AllDid, AllFinished};
+ghost use Rattle.shift_run.specs.inner.Shifts.{Leaves};
+ghost use Rattle.shift_run.specs.inner.Laws.{CardsLift, OpeningFirst, VersionsCount, VersionsStay};
 
-use crate::bench::{Bench, Order, weave_order};
-use crate::desk::{Desk, act};
-use crate::plans::{acts_of, plan_of};
-use mill_base::listed::Listed;
-use mill_base::memory::OutOfMemory;
+use crate::desk::Desk;
+use crate::foreman::direct;
+use crate::looms::{Part, finish_all, ready_all, weave_all};
+use crate::mail::{MailFrom, MailPass, Painter, open_mail, paint};
+use crate::plans::plan_of;
+use casting_out::casting::Casting;
+use loom_threads::loom::Loom;
+use mill_base::limits::MAX_PAINTERS;
+use mill_io::gate::Gate;
 use session_file::session::Session;
+use shed_publish::desk_end::DeskEnd;
 use std::alloc::Global;
-use version_journal::run_log::Repeat;
+use std::sync::Wait;
+use std::thread::{Threads, for_each_mut, join_mut};
+use studio_core::tile_core::Core;
 
-/// Does all acts of a shift, painter by painter in rising number.
-pub fn do_acts(
+// A painter's part, by the number of the painter. It gives up its end of the mail.
+fn paint_part<R: Wait, G: Gate>(
+    rt: &R,
     alloc: Global,
     session: &Session,
     shift: u32,
-    desk: &mut Desk,
-) -> Result<(), OutOfMemory>
+    painter: usize,
+    end: &mut Option<Painter>,
+    gate: &G,
+)
     requires fits { Fits session.now }
     requires shift { shift < length session.now.shifts }
-    requires works { CanWork session.now desk.old }
-    requires room { sum_by length (the_plan_of session.now shift).painters ≤ desk.old.journal.spare }
-    ensures { OnOk result (Does session.now (plan_slots shift (the_plan_of session.now shift)) desk.old desk.new) }
 {
-    let painters = plan_of(session, shift).painters.len() as u32;
-    'painters: for painter in 0..painters {
-        do_painter(alloc, session, shift, painter, desk)?;
+    let Some(end) = end.take() else {
+        return;
+    };
+    if painter < plan_of(session, shift).painters.len() {
+        paint(rt, alloc, session, shift, painter as u32, end, gate);
     }
-    Ok(())
 }
 
-// Does all acts of a painter in their order.
-fn do_painter(
+// Each painter does its part, in a thread of its own where there is one.
+fn paint_all<R: Threads + Wait + Sync, G: Gate>(
+    rt: &R,
     alloc: Global,
     session: &Session,
     shift: u32,
-    painter: u32,
-    desk: &mut Desk,
-) -> Result<(), OutOfMemory>
+    painters: &mut Vec<Option<Painter>>,
+    gate: &G,
+)
     requires fits { Fits session.now }
     requires shift { shift < length session.now.shifts }
-    requires painter { painter < length (the_plan_of session.now shift).painters }
-    requires works { CanWork session.now desk.old }
-    requires room { length (acts_of_painter (the_plan_of session.now shift) painter) ≤ desk.old.journal.spare }
-    ensures { OnOk result (Does session.now (painter_slots shift painter (length (acts_of_painter (the_plan_of session.now shift) painter))) desk.old desk.new) }
 {
-    let count = acts_of(plan_of(session, shift), painter).len() as u32;
-    'places: for place in 0..count {
-        act(alloc, session, shift, painter, place, desk)?;
-    }
-    Ok(())
+    let offer = |k: usize, end: &mut Option<Painter>|
+        requires { Fits session.now × (shift < length session.now.shifts) }
+    { paint_part(rt, alloc, session, shift, k, end, gate) };
+    for_each_mut(rt, painters.as_mut_slice(), MAX_PAINTERS as usize, &offer);
 }
 
-/// Weaves the repeats of all looms in a shift with the newest version.
-pub fn weave_shift(
+// The foreman and the looms at the same time. Where no thread can be made a join runs its second closure first.
+fn direct_and_weave<R: Threads + Wait + Sync, G: Gate>(
+    rt: &R,
     alloc: Global,
     session: &Session,
     shift: u32,
-    desk: &Desk,
-    bench: &mut Bench,
-    looms: &mut Vec<Listed<Repeat>>,
-) -> Result<(), OutOfMemory>
+    from: &MailFrom,
+    pass: &mut MailPass,
+    desk: &mut Desk,
+    parts: &[Part],
+    looms: &mut Vec<Loom>,
+    gate: &G,
+) -> bool
     requires fits { Fits session.now }
     requires shift { shift < length session.now.shifts }
-    requires works { CanWork session.now desk.now }
-    requires looms { length looms.old.items ≡ session.now.looms }
-    requires version { bench.old.version ≡ desk.now.version }
-    requires bench { IsBench session.now.design session.now.show_rows desk.now.newest bench.old }
-    ensures version { bench.new.version ≡ desk.now.version }
-    ensures bench { OnOk result (IsBench session.now.design session.now.show_rows desk.now.newest bench.new) }
-    ensures looms { OnOk result (length looms.new.items ≡ length looms.old.items) }
-    ensures repeats { OnOk result ((loom : ℕ) → loom < session.now.looms → slice_index_or looms.new.items loom []
-        ≡ slice_index_or looms.old.items loom [] ++ shift_repeats session.now shift desk.now.version desk.now.newest loom) }
+    requires mail { IsSeatAt (receives_on from.now) pass.old }
+    requires design { desk.old.core.design ≡ session.now.design }
+    requires ready { IsReady desk.old }
+    requires room { acts_of_shift session.now shift ≤ desk.old.core.spare }
+    requires looms { AllCanWeave (the_plan_of session.now shift).repeats parts.now looms.old.items }
+    ensures foreman { Directs session.now shift desk.old desk.new result }
+    ensures looms { AllDid shift (the_plan_of session.now shift).repeats parts.now looms.old.items looms.new.items }
 {
     let repeats = plan_of(session, shift).repeats.as_slice();
-    let faces = session.faces.as_slice();
-    'looms: for loom in 0..looms.len() {
-        let order = Order {
-            shift,
-            version: desk.version,
-            face: faces[loom],
-            count: repeats[loom],
-        };
-        weave_order(
-            alloc,
-            &session.design,
-            session.show_rows,
-            &desk.newest,
-            &order,
-            bench,
-            &mut looms[loom],
-        )?;
+    let mut weave = || -> ()
+        requires { IsSync R.row × AllCanWeave repeats.now parts.now looms.now.items }
+        ensures { AllDid shift repeats.entry.now parts.entry.now looms.entry.now.items looms.exit.now.items }
+    { weave_all(rt, shift, repeats, parts, looms, gate) };
+    let mut work = || -> bool
+        requires { Fits session.now × (shift < length session.now.shifts) × IsSeatAt (receives_on from.now) pass.now
+            × (desk.now.core.design ≡ session.now.design) × IsReady desk.now × (acts_of_shift session.now shift ≤ desk.now.core.spare) }
+        ensures { Directs session.entry.now shift desk.entry.now desk.exit.now result }
+    { direct(rt, alloc, session, shift, from, pass, desk, gate) };
+    let ((), all) = join_mut(rt, &mut weave, &mut work);
+    all
+}
+
+// The painters, the foreman and the looms at the same time. Where no thread can be made a join runs its second closure first, and the
+// foreman waits for the painters: so the painters stand second.
+fn work_all<R: Threads + Wait + Sync, G: Gate>(
+    rt: &R,
+    alloc: Global,
+    session: &Session,
+    shift: u32,
+    mail: (Vec<Option<Painter>>, MailFrom, MailPass),
+    desk: &mut Desk,
+    parts: &[Part],
+    looms: &mut Vec<Loom>,
+    gate: &G,
+) -> bool
+    requires fits { Fits session.now }
+    requires shift { shift < length session.now.shifts }
+    requires mail { IsSeatAt (receives_on mail.1) mail.2 }
+    requires design { desk.old.core.design ≡ session.now.design }
+    requires ready { IsReady desk.old }
+    requires room { acts_of_shift session.now shift ≤ desk.old.core.spare }
+    requires looms { AllCanWeave (the_plan_of session.now shift).repeats parts.now looms.old.items }
+    ensures foreman { Directs session.now shift desk.old desk.new result }
+    ensures looms { AllDid shift (the_plan_of session.now shift).repeats parts.now looms.old.items looms.new.items }
+{
+    let (mut painters, from, mut pass) = mail;
+    let mut offer = || -> ()
+        requires { IsSync R.row × Fits session.now × (shift < length session.now.shifts) }
+    { paint_all(rt, alloc, session, shift, &mut painters, gate) };
+    let mut rest = || -> bool
+        requires { IsSync R.row × Fits session.now × (shift < length session.now.shifts) × IsSeatAt (receives_on from) pass
+            × (desk.now.core.design ≡ session.now.design) × IsReady desk.now × (acts_of_shift session.now shift ≤ desk.now.core.spare)
+            × AllCanWeave (the_plan_of session.now shift).repeats parts.now looms.now.items }
+        ensures { Directs session.entry.now shift desk.entry.now desk.exit.now result
+            × AllDid shift (the_plan_of session.entry.now shift).repeats parts.entry.now looms.entry.now.items looms.exit.now.items }
+    {
+        direct_and_weave(
+            rt, alloc, session, shift, &from, &mut pass, desk, parts, looms, gate,
+        )
+    };
+    let (all, ()) = join_mut(rt, &mut rest, &mut offer);
+    all
+}
+
+/// Tells a proof that the columns hang on hooks in rising order.
+pub(crate) fn know_casting(casting: &Casting)
+    ensures { IsCasting casting.now }
+{
+    let _ = casting.hooks();
+}
+
+/// Tells a proof what holds of every core.
+pub(crate) fn know_core(core: &Core)
+    ensures { IsCore core.now }
+{
+    let _ = core.design();
+}
+
+/// How many versions are published.
+pub(crate) fn published(end: &DeskEnd) -> u32
+    ensures few { result ≤ length end.now.list }
+    ensures published { IsPublished end.now.list }
+{
+    end.version().saturating_add(1)
+}
+
+/// Tells a proof the laws that a shift rests on.
+pub(crate) fn know_laws()
+    ensures stay { VersionsStay }
+    ensures count { VersionsCount }
+    ensures first { OpeningFirst }
+    ensures lift { CardsLift }
+{
+    version_journal::laws::acts_go_on_from_where_others_ended();
+    version_journal::laws::each_accepted_commit_makes_a_version();
+    version_journal::laws::versions_keep_no_float();
+    loom_threads::laws::cut_cards_lift_the_cloth();
+}
+
+/// Ends the looms' parts of a shift.
+pub(crate) fn finish_shift(
+    session: &Session,
+    shift: u32,
+    desk: &mut Desk,
+    known: u32,
+    parts: &[Part],
+    looms: &mut Vec<Loom>,
+)
+    requires shift { shift < length session.now.shifts }
+    requires can { IsCore desk.old.core → AllCanFinish (the_plan_of session.now shift).repeats desk.old.core.cards parts.now looms.old.items }
+    ensures finished { AllFinished shift known desk.old.core.version desk.old.core.cards desk.old.end.list (the_plan_of session.now shift).repeats parts.now
+        looms.old.items looms.new.items }
+    ensures desk { desk.new ≡ desk.old }
+{
+    know_core(&desk.core);
+    let repeats = plan_of(session, shift).repeats.as_slice();
+    finish_all(
+        looms,
+        &mut desk.end,
+        &desk.core,
+        shift,
+        repeats,
+        known,
+        parts,
+    );
+}
+
+// A shift with memory for its mail and for the looms' parts.
+fn do_roles<R: Threads + Wait + Sync, G: Gate>(
+    rt: &R,
+    alloc: Global,
+    session: &Session,
+    shift: u32,
+    mail: (Vec<Option<Painter>>, MailFrom, MailPass),
+    mut parts: Vec<Part>,
+    desk: &mut Desk,
+    looms: &mut Vec<Loom>,
+    gate: &G,
+) -> bool
+    requires fits { Fits session.now }
+    requires shift { shift < length session.now.shifts }
+    requires mail { IsSeatAt (receives_on mail.1) mail.2 }
+    requires parts { parts.items ≡ [] }
+    requires room { length looms.old.items ≤ vec_capacity parts }
+    requires before { IsAtShift session.now shift desk.old looms.old.items }
+    ensures { Leaves session.now shift desk.old desk.new looms.old.items looms.new.items result }
+{
+    know_laws();
+    know_casting(&session.design.casting);
+    let known = published(&desk.end);
+    ready_all(looms, &mut desk.end, &mut parts);
+    let parts = parts.as_slice();
+    let all = work_all(rt, alloc, session, shift, mail, desk, parts, looms, gate);
+    finish_shift(session, shift, desk, known, parts, looms);
+    all
+}
+
+// A shift, until memory is refused.
+fn do_shift<R: Threads + Wait + Sync, G: Gate>(
+    rt: &R,
+    alloc: Global,
+    session: &Session,
+    shift: u32,
+    desk: &mut Desk,
+    looms: &mut Vec<Loom>,
+    gate: &G,
+) -> bool
+    requires fits { Fits session.now }
+    requires shift { shift < length session.now.shifts }
+    requires before { IsAtShift session.now shift desk.old looms.old.items }
+    ensures { Leaves session.now shift desk.old desk.new looms.old.items looms.new.items result }
+{
+    let Ok(mail) = open_mail(alloc, plan_of(session, shift).painters.len()) else {
+        return false;
+    };
+    let Ok(parts) = Vec::with_capacity(alloc, looms.len()) else {
+        return false;
+    };
+    do_roles(rt, alloc, session, shift, mail, parts, desk, looms, gate)
+}
+
+/// What a shift leaves: the desk and the looms with what was done, and whether memory was refused.
+pub struct ShiftEnd {
+    pub desk: Desk,
+    pub looms: Vec<Loom>,
+    pub out_of_memory: bool,
+}
+
+/// Runs a shift. Its painters, the foreman and the looms go on at the same time, in threads of their own where threads can be made. Whatever
+/// becomes of it, the log goes on from what it was.
+pub fn run_shift<R: Threads + Wait + Sync, G: Gate>(
+    rt: &R,
+    alloc: Global,
+    desk: Desk,
+    looms: Vec<Loom>,
+    session: &Session,
+    shift: u32,
+    gate: &G,
+) -> ShiftEnd
+    requires fits { Fits session.now }
+    requires shift { shift < length session.now.shifts }
+    requires before { IsAtShift session.now shift desk looms.items }
+    ensures after { result.out_of_memory ≡ false → IsAtShift session.now (shift + 1) result.desk result.looms.items }
+    ensures read { result.out_of_memory ≡ false → HaveRead (the_plan_of session.now shift).repeats looms.items result.looms.items }
+    ensures short { result.out_of_memory ≡ true → IsCutShort session.now shift desk result.desk looms.items result.looms.items }
+    ensures log { GoesOnFrom (log_of desk looms.items) (log_of result.desk result.looms.items) }
+{
+    let mut desk = desk;
+    let mut looms = looms;
+    let done = do_shift(rt, alloc, session, shift, &mut desk, &mut looms, gate);
+    ShiftEnd {
+        desk,
+        looms,
+        out_of_memory: !done,
     }
-    Ok(())
 }

@@ -2,19 +2,50 @@
 ghost use Rattle.std.specs.Prelude.{IfOk};
 ghost use Rattle.session_file.specs.Plans.{Fits};
 
-use crate::refusal::RunRefusal;
-use crate::run::{check_opening, last_paper, run_session};
+use crate::alone::run_shift_alone;
+use crate::desk::Desk;
+use crate::run::{check_opening, last_paper, run_session, start_looms};
+use crate::shift::ShiftEnd;
 use draft_model::cloth::Cloth;
 use draft_model::float_run::{FloatKind, FloatRun};
 use loom_threads::digest::cloth_digest;
+use loom_threads::loom::Loom;
+use mill_base::memory::OutOfMemory;
+use mill_io::gate::OpenGate;
 use mill_io::memory_shelf::MemoryShelf;
 use session_file::session::Session;
 use std::alloc::Global;
+use std::sync::Wait;
 use std::test::Fail;
+use studio_core::refusal::StartRefusal;
 use version_journal::entry::{Entry, Reply};
 use version_journal::run_log::Repeat;
 
-// The first commit keeps an endless weft float, the second none. Shift 1 makes no version.
+// The first commit keeps an endless weft float, the second none.
+const TWO_PAINTERS: &str = r#"
+format = 1
+looms = 2
+show = "rows"
+faces = ["up", "down"]
+[design]
+columns = 4
+picks = 4
+weft_limit = 2
+warp_limit = 3
+opening = 0
+[[colour]]
+weave = "plain"
+[[colour]]
+weave = "blank"
+[[colour]]
+weave = "twill 2 2 right"
+[[shift]]
+repeats = [1, 2]
+acts = [["rect 1 0 0 3 0", "commit"], ["rect 2 0 0 3 0", "commit"]]
+"#;
+
+// In each shift one painter has acts, and no repeat is woven while versions are made, so that every schedule gives one log. Shift 1 makes
+// no version.
 const TWO_SHIFTS: &str = r#"
 format = 1
 looms = 2
@@ -33,8 +64,8 @@ weave = "blank"
 [[colour]]
 weave = "twill 2 2 right"
 [[shift]]
-repeats = [1, 0]
-acts = [["rect 1 0 0 3 0", "commit"], ["rect 2 0 0 3 0", "commit"]]
+repeats = [0, 0]
+acts = [["rect 1 0 0 3 0", "commit", "rect 2 0 0 3 0", "commit"]]
 [[shift]]
 repeats = [1, 2]
 acts = [[], ["dot 1 1 1"]]
@@ -118,34 +149,86 @@ fn drawn(alloc: Global, repeats: &[Repeat], digest: [u8; 32]) -> Result<String, 
     Ok(text)
 }
 
+// What a desk and its looms did.
+#[derive(Drop)]
+struct Done {
+    entries: Vec<Entry>,
+    looms: Vec<Loom>,
+}
+
+// The first shift of a session on one thread.
+fn first_shift<R: Wait>(rt: &R, alloc: Global, session: &Session) -> Result<Done, Fail>
+    requires { Fits session.now }
+{
+    let mut desk = Desk::start(rt, alloc, session)?;
+    let Ok(looms) = start_looms(alloc, session, &mut desk) else {
+        desk.close(rt);
+        return Err(OutOfMemory.into());
+    };
+    let end = run_shift_alone(rt, alloc, desk, looms, session, 0, &OpenGate);
+    let ShiftEnd {
+        desk,
+        looms,
+        out_of_memory,
+    } = end;
+    let entries = Vec::from_slice(alloc, desk.core().entries());
+    desk.close(rt);
+    if out_of_memory {
+        return Err(OutOfMemory.into());
+    }
+    Ok(Done {
+        entries: entries?,
+        looms,
+    })
+}
+
 #[test]
-fn two_shifts_are_run_in_plain_order(rt: HostRuntime) -> Result<(), Fail> {
+fn a_shift_is_run_on_one_thread_in_plain_order(rt: HostRuntime) -> Result<(), Fail> {
     let alloc = rt.alloc();
-    let session = session(alloc, TWO_SHIFTS)?;
-    let ran = run_session(alloc, &session)?;
+    let session = session(alloc, TWO_PAINTERS)?;
+    let done = first_shift(&rt, alloc, &session)?;
     let want = [
         entry(0, 0, 1, Reply::Painted),
         entry(0, 0, 2, Reply::Refused(weft_float(0, 4, true))),
         entry(0, 1, 1, Reply::Painted),
         entry(0, 1, 2, Reply::Accepted(1)),
+    ];
+    assert_eq!(rt; done.entries.as_slice(), want.as_slice());
+    assert_eq!(rt; done.looms.len(), 2);
+    let up = drawn(alloc, done.looms[0].repeats(), UP)?;
+    assert_eq!(rt; up.as_str(), "0 1 true #..#/.#.#/#.#./.#.#/");
+    let down = drawn(alloc, done.looms[1].repeats(), DOWN)?;
+    assert_eq!(rt;
+        down.as_str(),
+        "0 1 true .##./#.#./.#.#/#.#./0 1 true .##./#.#./.#.#/#.#./"
+    );
+    let last = last_paper(alloc, &session)?;
+    assert_eq!(rt; cloth_digest(alloc, &session.design, &last)?, UP);
+    Ok(())
+}
+
+#[test]
+fn two_shifts_are_run_with_threads(rt: HostRuntime) -> Result<(), Fail> {
+    let alloc = rt.alloc();
+    let session = session(alloc, TWO_SHIFTS)?;
+    let ran = run_session(&rt, alloc, &session, &OpenGate)?;
+    let want = [
+        entry(0, 0, 1, Reply::Painted),
+        entry(0, 0, 2, Reply::Refused(weft_float(0, 4, true))),
+        entry(0, 0, 3, Reply::Painted),
+        entry(0, 0, 4, Reply::Accepted(1)),
         entry(1, 1, 1, Reply::Painted),
     ];
     assert_eq!(rt; ran.run_log.entries.as_slice(), want.as_slice());
     let looms = ran.run_log.looms.as_slice();
     assert_eq!(rt; looms.len(), 2);
     let up = drawn(alloc, looms[0].as_slice(), UP)?;
-    assert_eq!(rt;
-        up.as_str(),
-        "0 1 true #..#/.#.#/#.#./.#.#/1 1 true #..#/.#.#/#.#./.#.#/"
-    );
+    assert_eq!(rt; up.as_str(), "1 1 true #..#/.#.#/#.#./.#.#/");
     let down = drawn(alloc, looms[1].as_slice(), DOWN)?;
     assert_eq!(rt;
         down.as_str(),
         "1 1 true .##./#.#./.#.#/#.#./1 1 true .##./#.#./.#.#/#.#./"
     );
-    assert_eq!(rt; cloth_digest(alloc, &session.design, &ran.newest)?, UP);
-    let last = last_paper(alloc, &session)?;
-    assert_eq!(rt; cloth_digest(alloc, &session.design, &last)?, UP);
     Ok(())
 }
 
@@ -153,9 +236,9 @@ fn two_shifts_are_run_in_plain_order(rt: HostRuntime) -> Result<(), Fail> {
 fn an_opening_that_keeps_a_float_is_refused(rt: HostRuntime) -> Result<(), Fail> {
     let alloc = rt.alloc();
     let session = session(alloc, FLOATS)?;
-    let want = Some(RunRefusal::OpeningFloat(weft_float(4, 4, false)));
+    let want = Some(StartRefusal::OpeningFloat(weft_float(4, 4, false)));
     assert_eq!(rt; check_opening(alloc, &session).err(), want);
     assert_eq!(rt; last_paper(alloc, &session).err(), want);
-    assert_eq!(rt; run_session(alloc, &session).err(), want);
+    assert_eq!(rt; run_session(&rt, alloc, &session, &OpenGate).err(), want);
     Ok(())
 }

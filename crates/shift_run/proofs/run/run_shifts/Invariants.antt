@@ -1,5 +1,9 @@
-use Rattle.shift_run.specs.inner.Runs.{IsAtShift}
+use Rattle.std.proofs.Common.{◌≡◌, false}
+use Rattle.shift_run.specs.Runs.{IsAtShift}
 use Rattle.shift_run.proofs.run.run_shifts.Given as goal
 
 abbrev pub invariant-shifts : goal.invariant-shifts
-invariant-shifts l = IsAtShift l.session l.shift l.desk l.bench l.looms.items
+invariant-shifts g l = record {
+  at : IsAtShift l.session l.shift l.end.desk l.end.looms.items;
+  enough : l.end.out_of_memory ≡ false;
+}

@@ -1,0 +1,8 @@
+use Rattle.shift_run.proofs.StepsWorked.{worked, worked_run}
+use Rattle.shift_run.proofs.laws.events_run_a_session_of_two_shifts.Goals as goal
+
+pub returns-clause-world : goal.returns-clause-world
+returns-clause-world c = worked
+
+pub returns-clause-run : goal.returns-clause-run
+returns-clause-run c = worked_run
