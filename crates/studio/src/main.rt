@@ -27,7 +27,9 @@ fn main(rt: HostRuntime) -> ExitCode {
         }
         Err(_) => Vec::new(alloc),
     };
-    let answer = studio(alloc, &words, &mut shelf, &mut out, &mut err, &OpenGate);
+    let answer = studio(
+        &rt, alloc, &words, &mut shelf, &mut out, &mut err, &OpenGate,
+    );
     ExitCode::from(answer.status)
 }
 

@@ -17,6 +17,8 @@ use mill_io::sink::Sink;
 use report_text::cause::Cause;
 use report_text::fault_line::fault_line;
 use std::alloc::Global;
+use std::sync::Wait;
+use std::thread::Threads;
 use version_journal::run_log::RunLog;
 
 /// The answer of the studio: the exit status, its cause, and the log of the run at the statuses 0 and 6 of the commands that run looms.
@@ -40,13 +42,14 @@ pub(crate) struct Outcome {
 /// its image's; the opening's floats; for `lift` the chain's reading and its rules; the work; the output. What is found first hides all that
 /// comes later. The whole output is made in memory before its first byte goes out. For a status other than 0 `err` gets one line.
 #[tactic(auto, using(crate::proofs::Ends::log_kept))]
-pub fn studio<H: Shelf, K: Sink, E: Sink, G: Gate>(
+pub fn studio<R: Threads + Wait + Sync, H: Shelf, K: Sink, E: Sink, G: Gate>(
+    rt: &R,
     alloc: Global,
     words: &[String],
     shelf: &mut H,
     out: &mut K,
     err: &mut E,
-    _gate: &G,
+    gate: &G,
 ) -> Answer
     // The status is that of the cause, and there is a log exactly where a session was run.
     ensures status { result.status ≡ status_of result.cause }
@@ -77,7 +80,7 @@ pub fn studio<H: Shelf, K: Sink, E: Sink, G: Gate>(
         → (result.cause ≡ Cause.OutOfMemory) ⊎ ((result.cause ≡ Cause.Done) ↔ IsGood (texts words.now) held) }
 {
     words_and_files_decide();
-    let Outcome { cause, run_log } = end_of_words(alloc, words, shelf, out);
+    let Outcome { cause, run_log } = end_of_words(rt, alloc, words, shelf, out, gate);
     fault_line(&cause, err);
     Answer {
         status: cause.status(),
@@ -126,11 +129,13 @@ pub fn plain_command<H: Shelf, K: Sink, E: Sink>(
     }
 }
 
-fn end_of_words<H: Shelf, K: Sink>(
+fn end_of_words<R: Threads + Wait + Sync, H: Shelf, K: Sink, G: Gate>(
+    rt: &R,
     alloc: Global,
     words: &[String],
     shelf: &mut H,
     out: &mut K,
+    gate: &G,
 ) -> Outcome
     ensures caused { IsCausedBy (command_of (texts words.now)) (texts words.now)
         (outside (shelf_state (H.files shelf.old) (H.read_faults shelf.old) (H.write_faults shelf.old) (H.failed_name shelf.old))
@@ -147,7 +152,9 @@ fn end_of_words<H: Shelf, K: Sink>(
             cause: Cause::Usage,
             run_log: None,
         },
-        Some(command) if command.runs_looms() => run_end(alloc, command, words, shelf, out),
+        Some(command) if command.runs_looms() => run_end(
+            rt, alloc, command, words, shelf, out, gate,
+        ),
         Some(command) => Outcome {
             cause: plain_end(alloc, command, words, shelf, out),
             run_log: None,

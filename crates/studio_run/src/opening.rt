@@ -4,7 +4,7 @@ ghost use Rattle.mill_base.specs.Causes.{Rose};
 ghost use Rattle.session_file.specs.Plans.{Fits};
 ghost use Rattle.session_file.specs.declared.session.Session.{Session as SessionValue};
 ghost use Rattle.version_journal.specs.Journals.{float_kept};
-ghost use Rattle.shift_run.specs.Refusals.{IsStartRefusal};
+ghost use Rattle.studio_core.specs.Refusals.{IsStartRefusal};
 ghost use Rattle.studio_run.specs.Answers.{Fails, texts};
 ghost use Rattle.studio_run.specs.Outputs.{IsAbout};
 ghost use Rattle.studio_run.specs.inner.Ends.{Refuses, name_after, reads_after};
@@ -13,9 +13,9 @@ use crate::command::{Command, word};
 use mill_io::shelf::Shelf;
 use report_text::cause::Cause;
 use session_file::session::Session;
-use shift_run::refusal::RunRefusal;
 use shift_run::run::check_opening;
 use std::alloc::Global;
+use studio_core::refusal::StartRefusal;
 
 /// The session that a command is about: that of its file, or the trial of its number.
 #[tactic(auto, using(crate::proofs::Ends::unread_fails, crate::proofs::Ends::about_file, crate::proofs::Ends::reads_unless_trial, crate::proofs::Ends::unread_reads, crate::proofs::Ends::unread_name))]
@@ -57,11 +57,11 @@ pub(crate) fn open(alloc: Global, session: &Session) -> Result<(), Cause>
 }
 
 /// The cause that a run is refused for.
-pub(crate) fn start_cause(refusal: RunRefusal) -> Cause
-    ensures { (session : SessionValue) → IsStartRefusal session refusal → Refuses session result }
+pub(crate) fn start_cause(refusal: StartRefusal) -> Cause
+    ensures { (session : SessionValue) → IsStartRefusal session.design session.opening refusal → Refuses session result }
 {
     match refusal {
-        RunRefusal::OpeningFloat(float) => Cause::OpeningFloat(float),
-        RunRefusal::OutOfMemory => Cause::OutOfMemory,
+        StartRefusal::OpeningFloat(float) => Cause::OpeningFloat(float),
+        StartRefusal::OutOfMemory => Cause::OutOfMemory,
     }
 }

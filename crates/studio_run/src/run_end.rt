@@ -1,19 +1,20 @@
 //! The commands that run a session with its looms: `weave` and `trial`.
-ghost use Rattle.std.specs.Prelude.{◌≡◌, ◌≤◌, true, map, None, Some, IfOk};
-ghost use Rattle.draft_model.specs.Designs.{IsPaperOf};
+ghost use Rattle.std.specs.Prelude.{◌≡◌, ◌≤◌, true, None, Some, IfOk};
+ghost use Rattle.std.specs.Arc.{arc_value};
 ghost use Rattle.version_journal.specs.Journals.{float_kept};
-ghost use Rattle.shift_run.specs.Logs.{Legal, named_act};
-ghost use Rattle.shift_run.specs.Plans.{IsNewest, plain_order, plain_versions};
+ghost use Rattle.shift_run.specs.Logs.{Legal};
+ghost use Rattle.shift_run.specs.Runs.{AreCardsOfNewest};
 ghost use Rattle.session_file.specs.Plans.{Fits};
 ghost use Rattle.studio_run.specs.Answers.{IsEndOf, name_at, outside, reads_at, shelf_state, sink_state, texts};
 ghost use Rattle.studio_run.specs.Commands.{runs_looms};
-ghost use Rattle.studio_run.specs.inner.Ends.{IsRun, Made};
+ghost use Rattle.studio_run.specs.inner.Ends.{FixesOrder, IsRun, Made};
 
 use crate::answer::Outcome;
 use crate::command::Command;
 use crate::opening::{session_of, start_cause};
-use loom_threads::digest::cloth_digest;
+use loom_threads::digest::cards_digest;
 use mill_base::memory::OutOfMemory;
+use mill_io::gate::Gate;
 use mill_io::pieces::put_pieces;
 use mill_io::shelf::Shelf;
 use mill_io::sink::Sink;
@@ -21,17 +22,22 @@ use report_text::cause::Cause;
 use report_text::report::report;
 use report_text::summary::trial_line;
 use session_file::session::Session;
+use shift_run::laws::one_painter_fixes_the_order;
 use shift_run::run::{Ran, run_session};
 use std::alloc::Global;
+use std::sync::Wait;
+use std::thread::Threads;
 
 /// Does a command that runs looms.
 #[tactic(auto, using(crate::proofs::Ends::run_end, crate::proofs::Ends::failed_end, crate::proofs::Ends::run_reads, crate::proofs::Ends::run_name))]
-pub(crate) fn run_end<H: Shelf, K: Sink>(
+pub(crate) fn run_end<R: Threads + Wait + Sync, H: Shelf, K: Sink, G: Gate>(
+    rt: &R,
     alloc: Global,
     command: Command,
     words: &[String],
     shelf: &mut H,
     out: &mut K,
+    gate: &G,
 ) -> Outcome
     requires runs { runs_looms command ≡ true }
     ensures caused { IsEndOf command (texts words.now)
@@ -45,7 +51,7 @@ pub(crate) fn run_end<H: Shelf, K: Sink>(
         × (K.faults out.old ≤ K.faults out.new) }
 {
     match session_of(alloc, command, words, shelf) {
-        Ok(session) => run_and_put(alloc, command, &session, out),
+        Ok(session) => run_and_put(rt, alloc, command, &session, out, gate),
         Err(cause) => ended(cause),
     }
 }
@@ -61,14 +67,22 @@ fn ended(cause: Cause) -> Outcome
 }
 
 // Runs the session and puts out what is told of the run, which is made in memory before its first byte goes out.
-fn run_and_put<K: Sink>(alloc: Global, command: Command, session: &Session, out: &mut K) -> Outcome
+fn run_and_put<R: Threads + Wait + Sync, K: Sink, G: Gate>(
+    rt: &R,
+    alloc: Global,
+    command: Command,
+    session: &Session,
+    out: &mut K,
+    gate: &G,
+) -> Outcome
     requires runs { runs_looms command ≡ true }
     requires fits { Fits session.now }
+    requires order { FixesOrder command session.now }
     ensures later { K.faults out.old ≤ K.faults out.new }
     ensures run { IsRun command session.now (sink_state (K.taken out.old) (K.faults out.old)) (sink_state (K.taken out.new) (K.faults out.new))
         result.run_log result.cause }
 {
-    let ran = match run_session(alloc, session) {
+    let ran = match run_session(rt, alloc, session, gate) {
         Ok(ran) => ran,
         Err(refusal) => return ended(start_cause(refusal)),
     };
@@ -95,16 +109,16 @@ fn text_of_run(
     requires runs { runs_looms command ≡ true }
     requires fits { Fits session.now }
     requires sound { float_kept session.now.design session.now.opening ≡ None }
+    requires order { FixesOrder command session.now }
     requires legal { Legal session.now ran.now.run_log }
-    requires plain { map (named_act session.now) ran.now.run_log.entries ≡ plain_order session.now }
-    requires newest { IsNewest (plain_versions session.now) ran.now.newest }
-    requires paper { IsPaperOf session.now.design ran.now.newest }
+    requires newest { AreCardsOfNewest session.now ran.now.run_log.entries (arc_value ran.now.newest) }
     ensures { IfOk result (λ bytes. Made command session.now (Some ran.now.run_log) bytes.items) }
 {
     match command {
         Command::Weave => report(alloc, session, &ran.run_log),
         Command::Trial(number) => {
-            let digest = cloth_digest(alloc, &session.design, &ran.newest)?;
+            one_painter_fixes_the_order();
+            let digest = cards_digest(alloc, &session.design, &ran.newest)?;
             trial_line(alloc, number, &ran.run_log, &digest)
         }
         _ => unreachable!(),

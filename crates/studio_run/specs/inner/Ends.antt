@@ -1,5 +1,5 @@
 -- What the parts of a command come to.
-use Rattle.std.specs.Prelude.{◌≡◌, ℕ, Bool, List, Option, Some, None, Result, Ok, Err}
+use Rattle.std.specs.Prelude.{◌≡◌, ◌≤◌, ℕ, Bool, List, length, All, Option, Some, None, Result, Ok, Err}
 use Rattle.mill_base.specs.declared.face.Face.{Face}
 use Rattle.mill_base.specs.declared.limits.TheConstants.{MAX_FILE_BYTES}
 use Rattle.mill_io.specs.Files.{File}
@@ -17,6 +17,7 @@ use Rattle.session_file.specs.declared.session.Session.{Session as SessionValue}
 use Rattle.report_text.specs.declared.cause.Cause.{Cause}
 use Rattle.report_text.specs.declared.cause.Cause.TheVariants.{Done, Usage, Session, OpeningFloat, OutOfMemory, ReadFault, WriteFault, TooLong, Chain}
 use Rattle.studio_run.specs.declared.command.Command.{Command}
+use Rattle.studio_run.specs.declared.command.Command.TheVariants.{Weave, Check, Draw, Paper, Cards, Lift, Trial}
 use Rattle.studio_run.specs.Answers.{Delivered, DeliveredPart, Outside, SinkState, name_at, reads_at}
 use Rattle.session_file.specs.Readings.{HeldIn}
 use Rattle.studio_run.specs.Outputs.{IsOutput, cards_of}
@@ -25,6 +26,16 @@ use Rattle.studio_run.specs.Outputs.{IsOutput, cards_of}
 pub record Made (command : Command) (session : SessionValue) (run_log : Option RunLog) (bytes : List ℕ) : Type 0 where
   pub sound : float_kept session.design session.opening ≡ None
   pub output : (words : List (List ℕ)) (files : Option (List File)) → IsOutput command words files session run_log bytes
+
+-- where a command tells of the plain order of the acts, each shift of its session has one painter at most
+abbrev pub FixesOrder : Command → SessionValue → Type 0
+FixesOrder Weave session = Unit {0}
+FixesOrder Check session = Unit {0}
+FixesOrder Draw session = Unit {0}
+FixesOrder Paper session = Unit {0}
+FixesOrder (Cards face) session = Unit {0}
+FixesOrder Lift session = Unit {0}
+FixesOrder (Trial n) session = All (λ plan. length plan.painters ≤ 1) session.shifts
 
 -- the count of read faults once something was made, or came to a cause, and the name of the read that failed last
 abbrev pub reads_after : {T : Type 0} → ℕ → Result T Cause → ℕ
