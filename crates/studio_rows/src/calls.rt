@@ -2,13 +2,15 @@
 
 use crate::files::session;
 use mill_io::faults::Fail as Failing;
-use mill_io::gate::OpenGate;
+use mill_io::gate::{Gate, OpenGate};
 use mill_io::memory_shelf::MemoryShelf;
 use mill_io::memory_sink::MemorySink;
 use mill_io::shelf::Shelf;
 use std::alloc::{AllocError, Global};
 use std::process::Abort;
+use std::sync::Wait;
 use std::test::Fail;
+use std::thread::Threads;
 use studio_run::answer::studio;
 
 /// The exit status, and what standard output and standard error take.
@@ -52,8 +54,8 @@ pub(crate) fn sound_shelf(alloc: Global) -> MemoryShelf {
 }
 
 /// Runs the words over the shelf, and compares what comes of it.
-pub(crate) fn expect<H: Shelf>(
-    rt: &impl Abort,
+pub(crate) fn expect<R: Abort + Threads + Wait + Sync, H: Shelf>(
+    rt: &R,
     alloc: Global,
     shelf: &mut H,
     texts: &[&str],
@@ -67,8 +69,8 @@ pub(crate) fn expect<H: Shelf>(
 }
 
 /// The same where calls of the sinks fail.
-pub(crate) fn expect_despite<H: Shelf>(
-    rt: &impl Abort,
+pub(crate) fn expect_despite<R: Abort + Threads + Wait + Sync, H: Shelf>(
+    rt: &R,
     alloc: Global,
     shelf: &mut H,
     failures: Failures,
@@ -78,7 +80,7 @@ pub(crate) fn expect_despite<H: Shelf>(
     let words = words_of(alloc, texts)?;
     let mut out = failing_sink(alloc, failures.out)?;
     let mut err = failing_sink(alloc, failures.err)?;
-    let answer = studio(alloc, &words, shelf, &mut out, &mut err, &OpenGate);
+    let answer = studio(rt, alloc, &words, shelf, &mut out, &mut err, &OpenGate);
     let told = str::from_utf8(err.taken())?;
     let printed = str::from_utf8(out.taken())?;
     assert_eq!(rt; (answer.status, printed, told), wanted, "{texts:?}");
@@ -86,8 +88,8 @@ pub(crate) fn expect_despite<H: Shelf>(
 }
 
 /// Runs the words over a shelf that holds the smallest session with changed lines under `S1`.
-pub(crate) fn expect_changed(
-    rt: &impl Abort,
+pub(crate) fn expect_changed<R: Abort + Threads + Wait + Sync>(
+    rt: &R,
     alloc: Global,
     changes: &[(&str, &str)],
     texts: &[&str],
@@ -96,6 +98,24 @@ pub(crate) fn expect_changed(
     let mut shelf = sound_shelf(alloc);
     shelf.add("S1", session(rt, alloc, changes)?.as_bytes())?;
     expect(rt, alloc, &mut shelf, texts, wanted)
+}
+
+/// The report of a session, which is woven with nothing amiss.
+pub(crate) fn woven<R: Abort + Threads + Wait + Sync, G: Gate>(
+    rt: &R,
+    alloc: Global,
+    text: &str,
+    gate: &G,
+) -> Result<String, Fail> {
+    let mut shelf = sound_shelf(alloc);
+    shelf.add("S1", text.as_bytes())?;
+    let words = words_of(alloc, &["weave", "S1"])?;
+    let mut out = failing_sink(alloc, NEVER)?;
+    let mut err = failing_sink(alloc, NEVER)?;
+    let answer = studio(rt, alloc, &words, &mut shelf, &mut out, &mut err, gate);
+    let told = str::from_utf8(err.taken())?;
+    assert_eq!(rt; (answer.status, told), (0, ""), "{text}");
+    Ok(String::from_str(alloc, str::from_utf8(out.taken())?)?)
 }
 
 /// Compares what stands under the name.

@@ -7,7 +7,9 @@ use crate::files::{LEAF_SESSION, session};
 use mill_io::memory_shelf::MemoryShelf;
 use std::alloc::{AllocError, Global};
 use std::process::Abort;
+use std::sync::Wait;
 use std::test::Fail;
+use std::thread::Threads;
 use studio_run::answer::plain_command;
 use studio_run::command::Command;
 
@@ -63,8 +65,8 @@ fn expect_plain(
     Ok(())
 }
 
-fn expect_both(
-    rt: &impl Abort,
+fn expect_both<R: Abort + Threads + Wait + Sync>(
+    rt: &R,
     alloc: Global,
     shelf: &mut MemoryShelf,
     texts: &[&str],

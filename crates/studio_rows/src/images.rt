@@ -7,7 +7,9 @@ use crate::files::{
 use mill_io::memory_shelf::MemoryShelf;
 use std::alloc::{AllocError, Global};
 use std::process::Abort;
+use std::sync::Wait;
 use std::test::Fail;
+use std::thread::Threads;
 
 /// What stands before the colour map in a written image of 2 by 2 pixels.
 const HEAD: [u8; 174] = [
@@ -52,8 +54,8 @@ pub(crate) fn written(alloc: Global, shades: Shades, pixels: &[u8]) -> Result<Ve
 /// A command that writes the image Y, and the colours and the pixels of it, the last pick first.
 type Picture = (&'static [&'static str], Shades, &'static [u8]);
 
-fn expect_pictures(
-    rt: &impl Abort,
+fn expect_pictures<R: Abort + Threads + Wait + Sync>(
+    rt: &R,
     alloc: Global,
     shelf: &mut MemoryShelf,
     pictures: &[Picture],

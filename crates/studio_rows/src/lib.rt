@@ -17,6 +17,8 @@ mod images;
 #[cfg(test)]
 mod outside;
 #[cfg(test)]
+mod overlaps;
+#[cfg(test)]
 mod refusals;
 #[cfg(test)]
 mod sessions;

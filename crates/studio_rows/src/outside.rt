@@ -329,7 +329,9 @@ fn what_has_room_enough_never_fails(rt: HostRuntime) -> Result<(), Fail> {
         let words = words_of(alloc, texts)?;
         let mut out = SureSink::new(alloc, 1000)?;
         let mut err = SureSink::new(alloc, 0)?;
-        let answer = studio(alloc, &words, &mut shelf, &mut out, &mut err, &OpenGate);
+        let answer = studio(
+            &rt, alloc, &words, &mut shelf, &mut out, &mut err, &OpenGate,
+        );
         let found = (answer.status, str::from_utf8(out.taken())?);
         assert_eq!(rt; found, (0, printed), "{texts:?}");
     }

@@ -126,118 +126,6 @@ end versions 0
     ),
 ];
 
-const PAINTED: [Case; 4] = [
-    // A commit without an act before it makes a version too.
-    (
-        &[("repeats = [1]", "repeats = [1]\nacts = [[\"commit\"]]")],
-        "studio 1
-design columns 2 picks 2 ends 2 hooks 2
-shift 0
-act 0 painter 0 number 1 accepted 1
-loom 0 repeat 0 version 1 sha256 607b306244cab5c6e8670d7525e1af04304b5d2c3a8a1ad791cb01de20e22117
-row 0 #.
-row 1 .#
-end versions 1
-",
-    ),
-    // A paper that was refused is mended, and then accepted.
-    (
-        &[
-            (
-                "weave = \"plain\"",
-                "weave = \"plain\"\n[[colour]]\nweave = \"blank\"",
-            ),
-            (
-                "repeats = [1]",
-                "repeats = [1]\nacts = [[\"dot 1 0 0\", \"commit\", \"dot 0 0 0\", \"commit\"]]",
-            ),
-        ],
-        "studio 1
-design columns 2 picks 2 ends 2 hooks 2
-shift 0
-act 0 painter 0 number 1 paint
-act 1 painter 0 number 2 refused weft 0 start 0 length 2 endless
-act 2 painter 0 number 3 paint
-act 3 painter 0 number 4 accepted 1
-loom 0 repeat 0 version 1 sha256 607b306244cab5c6e8670d7525e1af04304b5d2c3a8a1ad791cb01de20e22117
-row 0 #.
-row 1 .#
-end versions 1
-",
-    ),
-    // No repeat shows the paper that was refused.
-    (
-        &[
-            ("columns = 2", "columns = 4"),
-            ("picks = 2", "picks = 4"),
-            ("weft_limit = 1", "weft_limit = 2"),
-            ("warp_limit = 1", "warp_limit = 3"),
-            (
-                "weave = \"plain\"",
-                "weave = \"plain\"\n[[colour]]\nweave = \"blank\"\n[[colour]]\nweave = \"twill 2 2 right\"",
-            ),
-            (
-                "repeats = [1]",
-                "repeats = [1]\nacts = [[\"rect 1 0 0 3 0\", \"commit\", \"rect 2 0 0 3 0\", \"commit\"]]\n[[shift]]\nrepeats = [2]",
-            ),
-        ],
-        "studio 1
-design columns 4 picks 4 ends 4 hooks 4
-shift 0
-act 0 painter 0 number 1 paint
-act 1 painter 0 number 2 refused weft 0 start 0 length 4 endless
-act 2 painter 0 number 3 paint
-act 3 painter 0 number 4 accepted 1
-loom 0 repeat 0 version 1 sha256 941850739faeace631abaf54f7eb5074cbba39626d9ae342ae68a511288c286c
-row 0 #..#
-row 1 .#.#
-row 2 #.#.
-row 3 .#.#
-shift 1
-loom 0 repeat 1 version 1 sha256 941850739faeace631abaf54f7eb5074cbba39626d9ae342ae68a511288c286c
-row 0 #..#
-row 1 .#.#
-row 2 #.#.
-row 3 .#.#
-loom 0 repeat 2 version 1 sha256 941850739faeace631abaf54f7eb5074cbba39626d9ae342ae68a511288c286c
-row 0 #..#
-row 1 .#.#
-row 2 #.#.
-row 3 .#.#
-end versions 1
-",
-    ),
-    // Two painters paint one cell, and the later one covers the earlier.
-    (
-        &[
-            ("show = \"rows\"", "show = \"digest\""),
-            ("columns = 2", "columns = 4"),
-            ("picks = 2", "picks = 4"),
-            ("weft_limit = 1", "weft_limit = 3"),
-            ("warp_limit = 1", "warp_limit = 3"),
-            (
-                "weave = \"plain\"",
-                "weave = \"plain\"\n[[colour]]\nweave = \"blank\"\n[[colour]]\nweave = \"full\"",
-            ),
-            (
-                "repeats = [1]",
-                "repeats = [0]\nacts = [[\"dot 1 0 0\"], [\"dot 2 0 0\"]]\n[[shift]]\nrepeats = [0]\nacts = [[\"commit\"]]\n[[shift]]\nrepeats = [1]",
-            ),
-        ],
-        "studio 1
-design columns 4 picks 4 ends 4 hooks 4
-shift 0
-act 0 painter 0 number 1 paint
-act 1 painter 1 number 1 paint
-shift 1
-act 2 painter 0 number 1 accepted 1
-shift 2
-loom 0 repeat 0 version 1 sha256 9a1d2b284ce4418bcb7e9d3efecc951780318309bcf1358a43ea09ffd0e80f98
-end versions 1
-",
-    ),
-];
-
 const TWO_LOOMS: Case = (
     &[
         (
@@ -262,14 +150,6 @@ end versions 0
 #[test]
 fn cloths_whose_floats_are_within_their_limits_are_woven(rt: HostRuntime) -> Result<(), Fail> {
     for (changes, report) in WOVEN {
-        expect_changed(&rt, rt.alloc(), changes, &["weave", "S1"], (0, report, ""))?;
-    }
-    Ok(())
-}
-
-#[test]
-fn painters_make_versions_and_looms_weave_the_newest(rt: HostRuntime) -> Result<(), Fail> {
-    for (changes, report) in PAINTED {
         expect_changed(&rt, rt.alloc(), changes, &["weave", "S1"], (0, report, ""))?;
     }
     Ok(())
@@ -305,7 +185,9 @@ fn four_looms_weave_what_two_painters_made_of_an_image(rt: HostRuntime) -> Resul
     let mut out = failing_sink(alloc, NEVER)?;
     let mut err = failing_sink(alloc, NEVER)?;
     let words = words_of(alloc, &["weave", "session"])?;
-    let answer = studio(alloc, &words, &mut shelf, &mut out, &mut err, &OpenGate);
+    let answer = studio(
+        &rt, alloc, &words, &mut shelf, &mut out, &mut err, &OpenGate,
+    );
     assert_eq!(rt; answer.status, 0);
     let report = out.taken();
     assert_eq!(rt; report.iter().filter(|byte| **byte == b'\n').count(), 28);
