@@ -16,7 +16,7 @@ use Rattle.card_image.specs.Sets.{hangs}
 use Rattle.card_image.specs.Faults.{begins, once, magic_fault, header_fault, number_fault, has_pad, first_idle, idle_fault, count_fault, holes_fault, card_fault, head_fault, excess_fault, chain_fault, end_fault}
 use Rattle.card_image.specs.Chains.{StandsAt, hole_count, IsCard, CardStandsAt, Chain}
 use Rattle.card_image.specs.Sets.{hole_of}
-use Rattle.card_image.specs.inner.Kept.{face_of, card_of, cards_of}
+use Rattle.card_image.specs.inner.Kept.{face_of, card_of, holes_in}
 use Rattle.card_image.specs.declared.fault.ChainFault.TheVariants.{BadMagic, PadBit, Excess, Truncated}
 use Rattle.card_image.proofs.Firsts.{both_none, each_none}
 use Rattle.mill_base.proofs.lemmas.Belows.{any_not, count_alike}
@@ -157,12 +157,12 @@ field_sound bytes field kept at end is none long small =
     let told = sym (once_yes bytes end (header_fault field kept (number_at bytes at)) long) ∙ none in
     number_stands bytes at kept small (eqb-true (number_at bytes at) kept (none_true (number_at bytes at == kept) _ told))
 
-pub cards_count : (d : CardDesign) (bytes : List ℕ) → length (cards_of d bytes) ≡ d.picks
-unfolding cards_of
+pub cards_count : (d : CardDesign) (bytes : List ℕ) → length (holes_in d bytes) ≡ d.picks
+unfolding holes_in
 cards_count d bytes = length-line_by d.picks (card_of d.hooks bytes)
 
-pub cards_at : (d : CardDesign) (bytes : List ℕ) (pick : ℕ) → pick < d.picks → get_or (cards_of d bytes) pick [] ≡ card_of d.hooks bytes pick
-unfolding cards_of
+pub cards_at : (d : CardDesign) (bytes : List ℕ) (pick : ℕ) → pick < d.picks → get_or (holes_in d bytes) pick [] ≡ card_of d.hooks bytes pick
+unfolding holes_in
 cards_at d bytes pick low = get_or-line_by d.picks (card_of d.hooks bytes) pick [] low
 
 -- bytes that show no fault are no more than a chain
@@ -178,7 +178,7 @@ none_past d bytes none =
     (cases_lt (length bytes) (chain_length d + 1))
 
 -- bytes of the whole length that show no fault are the chain of the cards that they hold
-pub chain_sound : (d : CardDesign) (bytes : List ℕ) → chain_fault d bytes ≡ None → length bytes ≡ chain_length d → IsBytes bytes → Chain d bytes (face_of bytes) (cards_of d bytes)
+pub chain_sound : (d : CardDesign) (bytes : List ℕ) → chain_fault d bytes ≡ None → length bytes ≡ chain_length d → IsBytes bytes → Chain d bytes (face_of bytes) (holes_in d bytes)
 unfolding chain_fault head_fault
 chain_sound d bytes none long small =
     let cards_fault = first_of (card_fault d.hooks d.columns bytes) d.picks in
@@ -203,7 +203,7 @@ chain_sound d bytes none long small =
     }
 
 -- so bytes that have no fault at their end are a chain
-pub whole_sound : (d : CardDesign) (bytes : List ℕ) → IsBytes bytes → end_fault d bytes ≡ None → Chain d bytes (face_of bytes) (cards_of d bytes)
+pub whole_sound : (d : CardDesign) (bytes : List ℕ) → IsBytes bytes → end_fault d bytes ≡ None → Chain d bytes (face_of bytes) (holes_in d bytes)
 unfolding end_fault
 whole_sound d bytes small none =
     let ends = both_none (chain_fault d bytes) (cond (ltb (length bytes) (chain_length d)) (Some (Truncated (chain_length d) (length bytes))) None) none in

@@ -10,7 +10,7 @@ use Rattle.mill_base.proofs.lemmas.Packs.{length-packed}
 use Rattle.card_image.specs.Sets.{CardDesign, CardsValue, design_by}
 use Rattle.card_image.specs.Places.{magic, hole_bytes, card_place}
 use Rattle.card_image.specs.Chains.{StandsAt, IsCard, CardStandsAt, Chain, hole_count}
-use Rattle.card_image.specs.inner.Kept.{head_bytes, card_bytes, face_of, cards_of}
+use Rattle.card_image.specs.inner.Kept.{head_bytes, card_bytes, face_of, holes_in}
 use Rattle.card_image.proofs.Cards.{card_next, card_first, card_place_le}
 use Rattle.casting_out.specs.Castings.{CastingValue}
 use Rattle.card_image.specs.Faults.{chain_fault}
@@ -175,16 +175,16 @@ pub written_clean : (d e : CardDesign) (bytes : List ℕ) (face : Face) (cards :
 written_clean d e bytes face cards same few some chain = ap (λ (x : CardDesign). chain_fault x bytes) same ∙ chain_clean d bytes face cards few some chain
 
 -- sets are the same exactly where their chains are
-pub same_sets : (d e : CardDesign) (xs ys : List ℕ) (v w : CardsValue) → record { design = d; face = face_of xs; holes = cards_of d xs } ≡ v → record { design = e; face = face_of ys; holes = cards_of e ys } ≡ w
-    → Chain d xs (face_of xs) (cards_of d xs) → Chain e ys (face_of ys) (cards_of e ys) → d ≡ e → (xs ≡ ys → v ≡ w) × (v ≡ w → xs ≡ ys)
+pub same_sets : (d e : CardDesign) (xs ys : List ℕ) (v w : CardsValue) → record { design = d; face = face_of xs; holes = holes_in d xs } ≡ v → record { design = e; face = face_of ys; holes = holes_in e ys } ≡ w
+    → Chain d xs (face_of xs) (holes_in d xs) → Chain e ys (face_of ys) (holes_in e ys) → d ≡ e → (xs ≡ ys → v ≡ w) × (v ≡ w → xs ≡ ys)
 same_sets d e xs ys v w of_v of_w one other same = (
-  (λ is. sym of_v ∙ ap (λ (x : CardDesign). record { design = x; face = face_of xs; holes = cards_of x xs }) same
-      ∙ ap (λ (zs : List ℕ). record { design = e; face = face_of zs; holes = cards_of e zs }) is ∙ of_w),
+  (λ is. sym of_v ∙ ap (λ (x : CardDesign). record { design = x; face = face_of xs; holes = holes_in x xs }) same
+      ∙ ap (λ (zs : List ℕ). record { design = e; face = face_of zs; holes = holes_in e zs }) is ∙ of_w),
   λ is.
       let all = of_v ∙ is ∙ sym of_w in
       let faces : face_of xs ≡ face_of ys = ap (λ (x : CardsValue). x.face) all in
-      let holes : cards_of d xs ≡ cards_of e ys = ap (λ (x : CardsValue). x.holes) all in
-      one_chain e xs ys (face_of ys) (cards_of e ys)
-      (subst (λ (cs : List (List Bool)). Chain e xs (face_of ys) cs) holes (subst (λ (f : Face). Chain e xs f (cards_of d xs)) faces (subst (λ (x : CardDesign). Chain x xs (face_of xs) (cards_of d xs)) same one)))
+      let holes : holes_in d xs ≡ holes_in e ys = ap (λ (x : CardsValue). x.holes) all in
+      one_chain e xs ys (face_of ys) (holes_in e ys)
+      (subst (λ (cs : List (List Bool)). Chain e xs (face_of ys) cs) holes (subst (λ (f : Face). Chain e xs f (holes_in d xs)) faces (subst (λ (x : CardDesign). Chain x xs (face_of xs) (holes_in d xs)) same one)))
       other,
 )

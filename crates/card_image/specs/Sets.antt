@@ -5,8 +5,10 @@ use Rattle.mill_base.specs.Lines.{line_by}
 use Rattle.mill_base.specs.declared.face.Face.{Face}
 use Rattle.mill_base.specs.declared.face.Face.TheVariants.{Up, Down}
 use Rattle.casting_out.specs.Castings.{CastingValue}
-use Rattle.point_paper.specs.Papers.{BitCells}
+use Rattle.point_paper.specs.Papers.{BitCells, PaperCells}
+use Rattle.draft_model.specs.declared.design.Design.{Design}
 use Rattle.draft_model.specs.Cards.{card}
+use Rattle.draft_model.specs.Drawdowns.{bound}
 
 -- what cards are for: how many hooks the machine has, how many picks the cloth has, and the hook of each column
 pub record CardDesign : Type 0 where
@@ -35,6 +37,14 @@ hole_of card hook = slice_index_or card hook false
 -- the face-up cards of a bit paper, one for each pick
 abbrev pub cards_up : CastingValue → BitCells → List (List Bool)
 cards_up casting bits = line_by (length bits.rows) (card casting bits Up)
+
+-- the cards of a bit paper of a design, for a cloth that lies face up
+abbrev pub cards_by : Design → BitCells → CardsValue
+cards_by design bits = record { design = design_by design.casting (length bits.rows); face = Up; holes = cards_up design.casting bits }
+
+-- the cards of a paper: those of its bound paper
+abbrev pub cards_of : Design → PaperCells → CardsValue
+cards_of design paper = cards_by design (bound design paper)
 
 abbrev pub other_face : Face → Face
 other_face Up = Down

@@ -6,7 +6,7 @@ ghost use Rattle.card_image.specs.Faults.{chain_fault};
 ghost use Rattle.card_image.specs.Places.{card_place, hole_bytes};
 ghost use Rattle.card_image.specs.Chains.{Chain, IsCardSet};
 ghost use Rattle.card_image.specs.Sets.{cards_up, design_by, turned_card, turned_set};
-ghost use Rattle.card_image.specs.inner.Kept.{face_of, cards_of};
+ghost use Rattle.card_image.specs.inner.Kept.{face_of, holes_in};
 
 use crate::cutting::{cut_chain, picks_of, turn_chain};
 use crate::holes::{clear_holes, mark_hooks};
@@ -30,19 +30,19 @@ pub struct CardSet {
 impl Model for CardSet {
     ghost use Rattle.card_image.specs.Sets.{CardsValue};
     ghost use Rattle.card_image.specs.Chains.{Chain};
-    ghost use Rattle.card_image.specs.inner.Kept.{face_of, cards_of};
+    ghost use Rattle.card_image.specs.inner.Kept.{face_of, holes_in};
 
     ghost Value = { CardsValue };
 
     ghost view = { λ c. record {
       design = record { hooks = c.hooks; picks = c.picks; columns = c.columns.items };
       face = face_of c.chain.items;
-      holes = cards_of (record { hooks = c.hooks; picks = c.picks; columns = c.columns.items }) c.chain.items;
+      holes = holes_in (record { hooks = c.hooks; picks = c.picks; columns = c.columns.items }) c.chain.items;
     } };
 
     ghost invariant = { λ c. Chain (record { hooks = c.hooks; picks = c.picks; columns = c.columns.items }) c.chain.items
         (face_of c.chain.items)
-        (cards_of (record { hooks = c.hooks; picks = c.picks; columns = c.columns.items }) c.chain.items) };
+        (holes_in (record { hooks = c.hooks; picks = c.picks; columns = c.columns.items }) c.chain.items) };
 }
 
 fn face_byte(chain: &[u8]) -> Face

@@ -13,8 +13,8 @@ use Rattle.draft_model.specs.Cloths.{ClothCells, cloth}
 use Rattle.draft_model.specs.Designs.{Fits}
 use Rattle.draft_model.specs.Drawdowns.{bound, drawdown}
 use Rattle.draft_model.specs.declared.design.Design.{Design}
-use Rattle.card_image.specs.Sets.{cards_up, other_face, turned_card}
-use Rattle.loom_threads.specs.Cuts.{cut_cards, machine_of}
+use Rattle.card_image.specs.Sets.{cards_of, cards_up, other_face, turned_card}
+use Rattle.loom_threads.specs.Cuts.{machine_of}
 use Rattle.loom_threads.specs.Woven.{lifted, lifted_rows}
 use Rattle.loom_threads.specs.Lifts.{cloth_from, faced, row_from}
 
@@ -39,7 +39,7 @@ faced_card turns casting bits Down pick is low =
     ap (turned_card casting.hooks casting.columns) (get_or-line_by (length bits.rows) (card casting bits Up) pick [] low) ∙ turns casting bits Up pick is
 
 -- what is lifted from the cards that are cut of a paper
-pub from_cut : Turns → (design : Design) (face : Face) (paper : PaperCells) → IsCasting design.casting → cloth_from (machine_of design) face (cut_cards design paper) ≡ lifted design face paper
+pub from_cut : Turns → (design : Design) (face : Face) (paper : PaperCells) → IsCasting design.casting → cloth_from (machine_of design) face (cards_of design paper) ≡ lifted design face paper
 from_cut turns design face paper is =
     let bits : BitCells = bound design paper in
     ap (λ (rows : List (List Bool)). record { ends = length design.tie.ends; rows = rows })

@@ -7,7 +7,8 @@ ghost use Rattle.casting_out.specs.Castings.{IsCasting};
 ghost use Rattle.point_paper.specs.Papers.{PaperCells};
 ghost use Rattle.draft_model.specs.Designs.{Fits, IsPaperOf};
 ghost use Rattle.draft_model.specs.Drawdowns.{drawdown as drawdown_of};
-ghost use Rattle.loom_threads.specs.Cuts.{cut_cards, machine_of};
+ghost use Rattle.card_image.specs.Sets.{cards_of};
+ghost use Rattle.loom_threads.specs.Cuts.{machine_of};
 ghost use Rattle.loom_threads.specs.Lifts.{cloth_from};
 ghost use Rattle.loom_threads.specs.Woven.{digest_of};
 
@@ -45,7 +46,7 @@ pub fn cards_digest(
     requires fits { Fits design.now }
     requires hooks { cards.now.design.hooks ≡ design.now.casting.hooks }
     ensures cards { IfOk result (λ digest. digest ≡ digest_of (cloth_from (machine_of design.now) Up cards.now)) }
-    ensures paper { (paper : PaperCells) → cards.now ≡ cut_cards design.now paper → IfOk result (λ digest. digest ≡ digest_of (drawdown_of design.now paper)) }
+    ensures paper { (paper : PaperCells) → cards.now ≡ cards_of design.now paper → IfOk result (λ digest. digest ≡ digest_of (drawdown_of design.now paper)) }
 {
     lifted_rows_are_the_drawdown();
     cut_cards_lift_the_cloth();

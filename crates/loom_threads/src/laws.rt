@@ -7,7 +7,8 @@ ghost use Rattle.draft_model.specs.declared.design.Design.{Design};
 ghost use Rattle.draft_model.specs.Cards.{woven};
 ghost use Rattle.draft_model.specs.Designs.{Fits};
 ghost use Rattle.draft_model.specs.Drawdowns.{drawdown};
-ghost use Rattle.loom_threads.specs.Cuts.{cut_cards, machine_of};
+ghost use Rattle.card_image.specs.Sets.{cards_of};
+ghost use Rattle.loom_threads.specs.Cuts.{machine_of};
 ghost use Rattle.loom_threads.specs.Lifts.{cloth_from};
 ghost use Rattle.loom_threads.specs.Woven.{lifted, lifted_rows};
 
@@ -25,7 +26,7 @@ pub fn lifted_rows_are_the_drawdown()
 /// loom of that face lifts from the paper.
 pub fn cut_cards_lift_the_cloth()
     ensures { (design : Design) (face : Face) (paper : PaperCells) → IsCasting design.casting
-        → cloth_from (machine_of design) face (cut_cards design paper) ≡ lifted design face paper }
+        → cloth_from (machine_of design) face (cards_of design paper) ≡ lifted design face paper }
 {
     card_image::laws::cut_cards_are_those_of_the_picks();
     card_image::laws::turned_cards_are_those_of_the_other_face();

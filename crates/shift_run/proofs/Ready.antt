@@ -9,7 +9,7 @@ use Rattle.point_paper.specs.Papers.{PaperCells}
 use Rattle.draft_model.specs.Designs.{IsPaperOf}
 use Rattle.draft_model.specs.Drawdowns.{bound}
 use Rattle.draft_model.specs.declared.design.Design.{Design}
-use Rattle.card_image.specs.Sets.{CardDesign, design_by}
+use Rattle.card_image.specs.Sets.{CardDesign, cards_of, design_by}
 use Rattle.strokes.specs.Places.{HasColour, IsThere}
 use Rattle.strokes.specs.declared.act.Act.{Act}
 use Rattle.strokes.specs.declared.act.Act.TheVariants.{Commit}
@@ -22,7 +22,7 @@ use Rattle.session_file.specs.declared.session.ShiftPlan.{ShiftPlan}
 use Rattle.shed_publish.specs.Ends.{DeskValue}
 use Rattle.shed_publish.specs.Versions.{IsPublished, IsRun}
 use Rattle.shed_publish.specs.declared.newest.Version.{Version}
-use Rattle.studio_core.specs.Cores.{CoreValue, cards_of}
+use Rattle.studio_core.specs.Cores.{CoreValue}
 use Rattle.studio_core.specs.Histories.{IsAt}
 use Rattle.shift_run.specs.Logs.{named_act}
 use Rattle.shift_run.specs.Plans.{acts_of_painter, plan_of}

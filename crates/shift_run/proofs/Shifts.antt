@@ -12,7 +12,7 @@ use Rattle.casting_out.specs.Castings.{IsCasting}
 use Rattle.point_paper.specs.Papers.{PaperCells}
 use Rattle.draft_model.specs.Cloths.{ClothCells}
 use Rattle.draft_model.specs.declared.design.Design.{Design}
-use Rattle.card_image.specs.Sets.{CardsValue}
+use Rattle.card_image.specs.Sets.{CardsValue, cards_of}
 use Rattle.version_journal.specs.Journals.{versions}
 use Rattle.version_journal.specs.declared.entry.Entry.{Entry}
 use Rattle.version_journal.specs.declared.run_log.Repeat.{Repeat}
@@ -21,8 +21,7 @@ use Rattle.session_file.specs.declared.session.Session.{Session}
 use Rattle.session_file.specs.declared.session.ShiftPlan.{ShiftPlan}
 use Rattle.shed_publish.specs.Versions.{IsPrefix}
 use Rattle.shed_publish.specs.declared.newest.Version.{Version}
-use Rattle.studio_core.specs.Cores.{cards_of}
-use Rattle.loom_threads.specs.Cuts.{cut_cards, machine_of}
+use Rattle.loom_threads.specs.Cuts.{machine_of}
 use Rattle.loom_threads.specs.Lifts.{cloth_from}
 use Rattle.loom_threads.specs.Looms.{AreOf, IsLoomOf, IsShown, LoomValue, repeats_of, repeat_from}
 use Rattle.loom_threads.specs.Woven.{IsWoven, digest_of, lifted, repeat_of}

@@ -4,9 +4,8 @@ use Rattle.std.specs.Prelude.{slice_get}
 use Rattle.std.proofs.lemmas.Option.{none-some, same_Some}
 use Rattle.point_paper.specs.Papers.{PaperCells}
 use Rattle.draft_model.specs.declared.design.Design.{Design}
-use Rattle.card_image.specs.Sets.{CardsValue}
+use Rattle.card_image.specs.Sets.{CardsValue, cards_of}
 use Rattle.shed_publish.specs.declared.newest.Version.{Version}
-use Rattle.studio_core.specs.Cores.{cards_of}
 use Rattle.shift_run.specs.Desks.{numbered}
 
 pub numbered_length : (design : Design) (n : ℕ) (papers : List PaperCells) → length (numbered design n papers) ≡ length papers

@@ -5,14 +5,14 @@ use Rattle.std.specs.Prelude.{All, slice_get}
 use Rattle.std.proofs.lemmas.List.{get_or-append-add, get_or_append_left, length-map}
 use Rattle.point_paper.specs.Papers.{PaperCells}
 use Rattle.draft_model.specs.declared.design.Design.{Design}
-use Rattle.card_image.specs.Sets.{CardsValue, design_by}
+use Rattle.card_image.specs.Sets.{CardsValue, cards_of, design_by}
 use Rattle.version_journal.specs.Journals.{versions}
 use Rattle.version_journal.specs.declared.entry.Entry.{Entry}
 use Rattle.version_journal.specs.declared.run_log.Repeat.{Repeat}
 use Rattle.session_file.specs.Plans.{acts_in}
 use Rattle.session_file.specs.declared.session.Session.{Session}
 use Rattle.shed_publish.specs.Ends.{DeskValue}
-use Rattle.studio_core.specs.Cores.{CoreValue, IsCore, cards_of}
+use Rattle.studio_core.specs.Cores.{CoreValue, IsCore}
 use Rattle.loom_threads.specs.Looms.{IsLoomOf, LoomValue, repeats_of}
 use Rattle.shift_run.specs.Desks.{Stands, new_core}
 use Rattle.shift_run.specs.Logs.{IsJournal, IsLoomLog, Legal, LegalBefore, named_act}

@@ -8,7 +8,7 @@ use Rattle.point_paper.specs.Papers.{PaperCells}
 use Rattle.draft_model.specs.Designs.{IsPaperOf}
 use Rattle.draft_model.specs.Drawdowns.{bound}
 use Rattle.draft_model.specs.declared.design.Design.{Design}
-use Rattle.card_image.specs.Sets.{CardDesign, design_by}
+use Rattle.card_image.specs.Sets.{CardDesign, cards_of, design_by}
 use Rattle.loom_machine.specs.Machines.{MachineValue}
 use Rattle.version_journal.specs.Journals.{ActWithMotif, versions}
 use Rattle.session_file.specs.Plans.{Fits, repeats_in}
@@ -17,7 +17,7 @@ use Rattle.session_file.specs.declared.session.ShiftPlan.{ShiftPlan}
 use Rattle.shed_publish.specs.Versions.{IsPublished}
 use Rattle.shed_publish.specs.declared.newest.Version.{Version}
 use Rattle.shed_publish.proofs.lemmas.Published.{alike}
-use Rattle.studio_core.specs.Cores.{IsCore, cards_of}
+use Rattle.studio_core.specs.Cores.{IsCore}
 use Rattle.loom_threads.specs.Cuts.{machine_of}
 use Rattle.loom_threads.specs.Looms.{IsLoomOf, IsTold, Knows, LoomValue, repeats_of}
 use Rattle.shift_run.specs.Desks.{IsReady, Stands}

@@ -5,7 +5,7 @@ use Rattle.std.proofs.lemmas.Option.{same_Some, slice_get_within}
 use Rattle.point_paper.specs.Papers.{PaperCells}
 use Rattle.draft_model.specs.declared.design.Design.{Design}
 use Rattle.shed_publish.specs.declared.newest.Version.{Version}
-use Rattle.studio_core.specs.Cores.{cards_of}
+use Rattle.card_image.specs.Sets.{cards_of}
 use Rattle.shift_run.specs.Desks.{numbered}
 
 pub numbered_length : (design : Design) (n : ℕ) (papers : List PaperCells) → length (numbered design n papers) ≡ length papers

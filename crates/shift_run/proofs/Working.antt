@@ -14,7 +14,8 @@ use Rattle.session_file.specs.Plans.{Fits}
 use Rattle.session_file.specs.declared.session.Session.{Session}
 use Rattle.shed_publish.specs.Ends.{DeskValue}
 use Rattle.shed_publish.specs.declared.newest.Version.{Version}
-use Rattle.studio_core.specs.Cores.{CoreValue, cards_of, entry_by}
+use Rattle.card_image.specs.Sets.{cards_of}
+use Rattle.studio_core.specs.Cores.{CoreValue, entry_by}
 use Rattle.studio_core.specs.Histories.{IsAt}
 use Rattle.shift_run.specs.Plans.{acts_of_painter, plan_of}
 use Rattle.shift_run.specs.DeskActs.{Commits, GoesTo, IsLeft, IsUnanswered, IsUnshown, MakesNewest, act_of, list_after, reply_of}

@@ -12,7 +12,8 @@ use Rattle.shed_publish.specs.declared.newest.Version.{Version}
 use Rattle.tile_grid.specs.Tiles.{tiles}
 use Rattle.tile_marks.specs.Marks.{NoneFrom}
 use Rattle.tile_rebuild.specs.Tiles.{grid_of}
-use Rattle.studio_core.specs.Cores.{CoreValue, cards_of}
+use Rattle.card_image.specs.Sets.{cards_of}
+use Rattle.studio_core.specs.Cores.{CoreValue}
 use Rattle.studio_core.specs.Histories.{IsAt}
 use Rattle.studio_core.specs.Touches.{bind_tiles, check_tiles}
 use Rattle.shift_run.specs.declared.desk.Desk.{Desk}

@@ -4,7 +4,7 @@ use Rattle.std.specs.List.{range_with_len}
 use Rattle.point_paper.specs.Papers.{PaperCells}
 use Rattle.draft_model.specs.Drawdowns.{bound}
 use Rattle.draft_model.specs.declared.design.Design.{Design}
-use Rattle.card_image.specs.Sets.{design_by}
+use Rattle.card_image.specs.Sets.{cards_of, design_by}
 use Rattle.version_journal.specs.Journals.{History, history}
 use Rattle.version_journal.specs.declared.entry.Entry.{Entry}
 use Rattle.session_file.specs.Plans.{acts_in}
@@ -14,7 +14,7 @@ use Rattle.shed_publish.specs.Versions.{IsPublished}
 use Rattle.shed_publish.specs.declared.newest.Version.{Version}
 use Rattle.tile_grid.specs.Tiles.{tiles}
 use Rattle.tile_rebuild.specs.Tiles.{grid_of}
-use Rattle.studio_core.specs.Cores.{CoreValue, cards_of}
+use Rattle.studio_core.specs.Cores.{CoreValue}
 use Rattle.studio_core.specs.Histories.{IsAt}
 use Rattle.shift_run.specs.Logs.{named_act, numbers_of_painter}
 use Rattle.shift_run.specs.Plans.{acts_of_painter, plan_of}

@@ -4,7 +4,7 @@ use Rattle.std.specs.List.Sorted.{IsNonDecreasing}
 use Rattle.mill_base.specs.Causes.{Rose}
 use Rattle.mill_base.specs.declared.face.Face.TheVariants.{Up}
 use Rattle.point_paper.specs.Papers.{PaperCells}
-use Rattle.card_image.specs.Sets.{CardsValue, design_by}
+use Rattle.card_image.specs.Sets.{CardsValue, cards_of, design_by}
 use Rattle.version_journal.specs.Journals.{versions}
 use Rattle.version_journal.specs.declared.entry.Entry.{Entry}
 use Rattle.version_journal.specs.declared.run_log.Repeat.{Repeat}
@@ -12,7 +12,6 @@ use Rattle.version_journal.specs.declared.run_log.RunLog.{RunLog}
 use Rattle.session_file.specs.Plans.{acts_in}
 use Rattle.session_file.specs.declared.session.Session.{Session}
 use Rattle.shed_publish.specs.Ends.{EndValue, new_end}
-use Rattle.studio_core.specs.Cores.{cards_of}
 use Rattle.loom_threads.specs.Looms.{IsLoomOf, LoomValue, missed_of, readings_of, repeats_of}
 use Rattle.loom_threads.specs.Woven.{IsWoven}
 use Rattle.shift_run.specs.Desks.{AddsSome, Holds, NearlyShown, Stands}

@@ -5,7 +5,6 @@ use Rattle.std.specs.Arc.{arc_value}
 use Rattle.std.specs.Option.{option_or}
 use Rattle.std.proofs.lemmas.List.{get_or-replicate, length-replicate}
 use Rattle.std.proofs.lemmas.Bool.{both_ways, false_from_ne_true}
-use Rattle.mill_base.specs.declared.face.Face.TheVariants.{Up}
 use Rattle.mill_base.specs.declared.size.Size.{Size}
 use Rattle.point_paper.specs.Papers.{PaperCells, BitCells, IsBitPaper, bit_cell, cell_of, covers}
 use Rattle.point_paper.specs.declared.paper.Span.{Span}
@@ -17,7 +16,7 @@ use Rattle.draft_model.specs.declared.float_run.FloatRun.{FloatRun}
 use Rattle.draft_model.specs.Designs.{Fits, IsBitsOf, IsPaperOf}
 use Rattle.draft_model.specs.Drawdowns.{bound}
 use Rattle.draft_model.specs.Floats.{first_float}
-use Rattle.card_image.specs.Sets.{CardsValue, cards_up, design_by}
+use Rattle.card_image.specs.Sets.{CardsValue, cards_by, cards_of, design_by}
 use Rattle.version_journal.specs.declared.entry.Entry.{Entry}
 use Rattle.version_journal.specs.Journals.{float_kept}
 use Rattle.tile_grid.specs.Near.{any_cell}
@@ -30,7 +29,7 @@ use Rattle.tile_rebuild.specs.Lines.{AreBitsOf, AreColoursOf}
 use Rattle.tile_rebuild.specs.Rebuilds.{IsPut}
 use Rattle.tile_rebuild.specs.Tiles.{grid_at, grid_of, has_long, part_at, parts_of}
 use Rattle.tile_rebuild.specs.Values.{BoundTile, FlagTile, IsBoundTile, IsFlagTile}
-use Rattle.studio_core.specs.Cores.{CoreValue, IsCentral, IsCore, cards_of}
+use Rattle.studio_core.specs.Cores.{CoreValue, IsCentral, IsCore}
 use Rattle.studio_core.specs.Gives.{IsNearClear}
 use Rattle.studio_core.specs.Touches.{bind_tiles, check_tiles, touches}
 use Rattle.studio_core.specs.declared.rooms.Rooms.{Rooms}
@@ -198,10 +197,6 @@ flags_right core is bound_clear check_clear t h =
 
 pub float_right : (core : CoreValue) (float : Option FloatRun) → IsCore core → NoneFrom core.bind 0 → float ≡ first_float core.design core.bits → float ≡ float_kept core.design core.paper
 float_right core float is clear first = first ∙ ap (λ (b : BitCells). first_float core.design b) (bits_bound core is clear)
-
--- the cards that are cut of bits
-abbrev pub cards_by : Design → BitCells → CardsValue
-cards_by design bits = record { design = design_by design.casting (length bits.rows); face = Up; holes = cards_up design.casting bits }
 
 pub cards_right : (core : CoreValue) (cards : CardsValue) → IsCore core → NoneFrom core.bind 0 → cards ≡ cards_by core.design core.bits → cards ≡ cards_of core.design core.paper
 cards_right core cards is clear cut = cut ∙ ap (cards_by core.design) (bits_bound core is clear)

@@ -2,7 +2,8 @@
 use Rattle.std.specs.Prelude.{◌≡◌, ℕ, ◌+◌, ◌*◌, count_by}
 use Rattle.version_journal.specs.declared.entry.Reply.{Reply}
 use Rattle.version_journal.specs.declared.entry.Reply.TheVariants.{Painted, Accepted, Refused}
-use Rattle.studio_core.specs.Cores.{CoreValue, cards_of}
+use Rattle.card_image.specs.Sets.{cards_of}
+use Rattle.studio_core.specs.Cores.{CoreValue}
 
 -- an accepted commit makes the next version, with the cards of the present paper; a refused one leaves version and cards
 abbrev pub IsAnswered : Reply → CoreValue → CoreValue → Type 0

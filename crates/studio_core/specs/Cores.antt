@@ -1,12 +1,11 @@
 -- What a core keeps, and what holds of every core.
 use Rattle.std.specs.Prelude.{◌≡◌, ℕ, ◌+◌, ◌-◌, ◌^◌, ◌<◌, ◌≤◌, Bool, false, List, length, slice_index_or}
-use Rattle.mill_base.specs.declared.face.Face.TheVariants.{Up}
 use Rattle.harness_ties.specs.Ties.{IsTie}
 use Rattle.point_paper.specs.Papers.{PaperCells, BitCells, IsPaper, IsBitPaper, bit_cell}
 use Rattle.draft_model.specs.declared.design.Design.{Design}
 use Rattle.draft_model.specs.Designs.{Fits, IsPaperOf, IsBitsOf}
 use Rattle.draft_model.specs.Drawdowns.{bound}
-use Rattle.card_image.specs.Sets.{CardsValue, cards_up, design_by}
+use Rattle.card_image.specs.Sets.{CardsValue, design_by}
 use Rattle.version_journal.specs.declared.entry.Entry.{Entry}
 use Rattle.version_journal.specs.declared.entry.Reply.{Reply}
 use Rattle.tile_grid.specs.Tiles.{tile_of, tiles}
@@ -27,14 +26,6 @@ pub record CoreValue : Type 0 where
   pub check : List Bool
   pub flags : List Bool
   pub installed : ℕ
-
--- the cards that are cut of a paper
-abbrev pub cards_of : Design → PaperCells → CardsValue
-cards_of design paper = record {
-  design = design_by design.casting (length (bound design paper).rows);
-  face = Up;
-  holes = cards_up design.casting (bound design paper);
-}
 
 -- an act that was done, by whom, and the reply to it
 abbrev pub entry_by : ℕ → ℕ → ℕ → Reply → Entry

@@ -2,7 +2,8 @@
 use Rattle.std.specs.Prelude.{◌≡◌, ◌+◌, Some, length, slice_get}
 use Rattle.point_paper.specs.Papers.{PaperCells}
 use Rattle.version_journal.specs.Journals.{History}
-use Rattle.studio_core.specs.Cores.{CoreValue, cards_of}
+use Rattle.card_image.specs.Sets.{cards_of}
+use Rattle.studio_core.specs.Cores.{CoreValue}
 
 -- the core's paper is the history's, its version is the number of the history's last one, and its cards are cut of that version
 pub record IsAt (h : History) (core : CoreValue) : Type 0 where

@@ -1,8 +1,7 @@
 //! What a commit is answered, once the tiles are bound and checked.
-ghost use Rattle.std.specs.Prelude.{◌≡◌, ℕ, ◌<◌, false, length, slice_index_or, None, IfOk};
+ghost use Rattle.std.specs.Prelude.{◌≡◌, ℕ, ◌<◌, false, slice_index_or, None, IfOk};
 ghost use Rattle.std.specs.Arc.{arc_value};
-ghost use Rattle.mill_base.specs.declared.face.Face.{Face};
-ghost use Rattle.card_image.specs.Sets.{cards_up, design_by};
+ghost use Rattle.card_image.specs.Sets.{cards_by};
 ghost use Rattle.draft_model.specs.Designs.{Fits, IsBitsOf};
 ghost use Rattle.draft_model.specs.Floats.{first_float as first_float_of};
 ghost use Rattle.tile_grid.specs.Tiles.{tiles};
@@ -42,11 +41,7 @@ pub(crate) fn cut_cards(
 ) -> Result<Arc<CardSet>, OutOfMemory>
     requires fits { Fits design.now }
     requires bits { IsBitsOf design.now bits.now }
-    ensures { IfOk result (λ cards. arc_value cards ≡ record {
-      design = design_by design.now.casting (length bits.now.rows);
-      face = Face.Up;
-      holes = cards_up design.now.casting bits.now;
-    }) }
+    ensures { IfOk result (λ cards. arc_value cards ≡ cards_by design.now bits.now) }
 {
     let cards = CardSet::cut(alloc, bits, &design.casting)?;
     Ok(Arc::new(alloc, cards)?)

@@ -17,8 +17,8 @@ face_of bytes = if slice_index bytes 3 == 50 then Down else Up
 unfoldable pub card_of : ℕ → List ℕ → ℕ → List Bool
 card_of hooks bytes pick = line_by hooks (hole_at bytes (card_place hooks pick + 8))
 
-unfoldable pub cards_of : CardDesign → List ℕ → List (List Bool)
-cards_of d bytes = line_by d.picks (card_of d.hooks bytes)
+unfoldable pub holes_in : CardDesign → List ℕ → List (List Bool)
+holes_in d bytes = line_by d.picks (card_of d.hooks bytes)
 
 -- the bytes before the first card
 abbrev pub head_bytes : ℕ → ℕ → Face → List ℕ

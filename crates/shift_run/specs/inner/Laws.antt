@@ -6,7 +6,8 @@ use Rattle.point_paper.specs.Papers.{PaperCells}
 use Rattle.draft_model.specs.declared.design.Design.{Design}
 use Rattle.version_journal.specs.Entries.{is_accepted}
 use Rattle.version_journal.specs.Journals.{ActWithMotif, replies, versions}
-use Rattle.loom_threads.specs.Cuts.{cut_cards, machine_of}
+use Rattle.card_image.specs.Sets.{cards_of}
+use Rattle.loom_threads.specs.Cuts.{machine_of}
 use Rattle.loom_threads.specs.Lifts.{cloth_from}
 use Rattle.loom_threads.specs.Woven.{lifted}
 
@@ -26,4 +27,4 @@ OpeningFirst = (design : Design) (opening : PaperCells) (acts : List ActWithMoti
 
 -- from the cards of a paper a loom lifts the paper's cloth
 abbrev pub CardsLift : Type 0
-CardsLift = (design : Design) (face : Face) (paper : PaperCells) → IsCasting design.casting → cloth_from (machine_of design) face (cut_cards design paper) ≡ lifted design face paper
+CardsLift = (design : Design) (face : Face) (paper : PaperCells) → IsCasting design.casting → cloth_from (machine_of design) face (cards_of design paper) ≡ lifted design face paper

@@ -8,7 +8,7 @@ use Rattle.draft_model.specs.Drawdowns.{bound}
 use Rattle.tile_grid.specs.Tiles.{tiles}
 use Rattle.tile_rebuild.specs.Tiles.{grid_of, has_long}
 use Rattle.studio_core.specs.declared.opening.Opened.{Opened}
-use Rattle.studio_core.specs.Cores.{cards_of}
+use Rattle.card_image.specs.Sets.{cards_of}
 
 -- the bits are the bound paper, no tile of it has a long cell and no flag is set, and the cards are cut of it; with what the tie and the
 -- paper are by their types

@@ -2,7 +2,8 @@ use Rattle.std.proofs.Common.{◌≡◌, ◌+◌, sym, subst, ap, ◌∙◌}
 use Rattle.std.specs.Prelude.{None}
 use Rattle.tile_marks.specs.Marks.{NoneFrom}
 use Rattle.version_journal.specs.Journals.{float_kept, reply_to_commit}
-use Rattle.studio_core.specs.Cores.{CoreValue, cards_of}
+use Rattle.card_image.specs.Sets.{cards_of}
+use Rattle.studio_core.specs.Cores.{CoreValue}
 use Rattle.studio_core.proofs.Cores.{cards_right, flags_right, float_right, none_some}
 use Rattle.studio_core.proofs.tile_core.Core.answer.Goals as goal
 
