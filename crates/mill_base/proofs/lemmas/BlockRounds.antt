@@ -4,7 +4,7 @@ use Rattle.std.specs.Int.{bit_at}
 use Rattle.std.proofs.lemmas.Bool.{cases_eq, cases_lt}
 use Rattle.std.proofs.lemmas.Nat.Bits.{bit_at-lt}
 use Rattle.mill_base.proofs.lemmas.WordBits.{bit_at_shr, bit_at_shl_from}
-use Rattle.mill_base.specs.inner.Swaps.{IsSwapMask, IsPairSwapped, IsRoundOf, cross}
+use Rattle.mill_base.specs.inner.Swaps.{IsSwapMask, IsPairSwapped, ArePairsSwapped, IsRoundOf, cross}
 
 pub pair_within : (mask by row : ℕ) → IsSwapMask mask by → row < 64 → bit_at mask row ≡ 1 → row + by < 64
 pair_within mask by row is h set = ⊎_elim (λ (inside : row + by < 64). inside)
@@ -59,31 +59,91 @@ from_old mask by r old mid new pair low high = record {
   high_kept = λ j h m. pair.high_kept j h m ∙ ap (λ w. bit_at w j) high;
 }
 
-pub one_swapped : (mask by row : ℕ) (old mid new : List ℕ) → IsSwapMask mask by → row < 64 → bit_at mask row ≡ 1 → AreSwapped mask by row old mid → IsPairSwapped mask by row mid new
-    → ((r : ℕ) → r ≢ row → r ≢ row + by → get_or new r 0 ≡ get_or mid r 0) → AreSwapped mask by (row + 1) old new
-one_swapped mask by row old mid new is h set before pair others =
-    let within = pair_within mask by row is h set in
-    let some = is.some in
-    let turn = is.turns row within in
-    record {
-      done = λ r below m. ⊎_elim
-          (λ (same : r ≡ row). subst (λ n. IsPairSwapped mask by n old new) (sym same) (from_old mask by row old mid new pair (before.low row (omega arith) set) (before.high row (omega arith) set)))
-          (λ (ne : r ≢ row).
-          let inside = pair_within mask by r is (omega arith) m in
-          let clear = is.turns r inside in
-          along mask by r old mid new (before.done r (omega arith) m)
-          (others r ne (λ e. let f = ap (bit_at mask) e in omega (arith, f, turn, set, m)))
-          (others (r + by) (λ e. let f = ap (bit_at mask) e in omega (arith, f, clear, set, m)) (omega arith)))
-          (cases_eq r row);
-      low = λ r from m. others r (omega arith) (λ e. let f = ap (bit_at mask) e in omega (arith, f, turn, set, m)) ∙ before.low r (omega arith) m;
-      high = λ r from m. others (r + by) (omega arith) (omega arith) ∙ before.high r (omega arith) m;
-    }
+-- one more pair of a square
+pub no_pair_swapped : (mask by start : ℕ) (old : List ℕ) → ArePairsSwapped mask by start start old old
+no_pair_swapped mask by start old = record { pairs = λ r from h. absurd (omega arith); below = λ r h. refl; between = λ r from h. refl; past = λ r h. refl }
 
-pub one_kept : (mask by row : ℕ) (old mid : List ℕ) → bit_at mask row ≢ 1 → AreSwapped mask by row old mid → AreSwapped mask by (row + 1) old mid
-one_kept mask by row old mid clear before = record {
-  done = λ r below m. ⊎_elim (λ (same : r ≡ row). absurd (clear (sym (ap (bit_at mask) same) ∙ m))) (λ (ne : r ≢ row). before.done r (omega arith) m) (cases_eq r row);
-  low = λ r from m. before.low r (omega arith) m;
-  high = λ r from m. before.high r (omega arith) m;
+pub one_pair_swapped : (mask by start row : ℕ) (old mid new : List ℕ) → start ≤ row → row < start + by → ArePairsSwapped mask by start row old mid → IsPairSwapped mask by row mid new
+    → ((r : ℕ) → r ≢ row → r ≢ row + by → get_or new r 0 ≡ get_or mid r 0) → ArePairsSwapped mask by start (row + 1) old new
+one_pair_swapped mask by start row old mid new from within before pair others = record {
+  pairs = λ r low below. ⊎_elim
+      (λ (same : r ≡ row).
+      subst (λ n. IsPairSwapped mask by n old new) (sym same) (from_old mask by row old mid new pair (before.between row (omega arith) within) (before.past (row + by) (omega arith))))
+      (λ (ne : r ≢ row).
+      along mask by r old mid new (before.pairs r low (omega arith)) (others r ne (omega arith)) (others (r + by) (omega arith) (omega arith)))
+      (cases_eq r row);
+  below = λ r h. others r (omega arith) (omega arith) ∙ before.below r h;
+  between = λ r low h. others r (omega arith) (omega arith) ∙ before.between r (omega arith) h;
+  past = λ r h. others r (omega arith) (omega arith) ∙ before.past r (omega arith);
+}
+
+-- the words from `start` on up to the next `by` have the mask's bits set
+abbrev pub IsSetFrom : ℕ → ℕ → ℕ → Type 0
+IsSetFrom mask by start = (i : ℕ) → i < by → start + i < 64 → bit_at mask (start + i) ≡ 1
+
+pub set_first : (mask by : ℕ) → IsSwapMask mask by → IsSetFrom mask by 0
+set_first mask by is i h within = ap (bit_at mask) (let e : 0 + i ≡ i = omega arith in e) ∙ is.first i h
+
+inside_by : (mask by start : ℕ) → IsSwapMask mask by → start < 64 → IsSetFrom mask by start → start + by ≤ 64
+inside_by mask by start is h set = ⊎_elim
+    (λ (past : 64 < start + by).
+    let some = is.some in let half = is.half in
+    let one = set (63 - start) (omega arith) (omega arith) in
+    let none = is.last (by - 1) (omega arith) in
+    let a = ap (bit_at mask) (let e : start + (63 - start) ≡ 63 = omega arith in e) in
+    let b = ap (bit_at mask) (let e : 64 - by + (by - 1) ≡ 63 = omega arith in e) in
+    absurd (omega (arith, one, none, a, b)))
+    (λ (within : start + by ≤ 64). within)
+    (cases_lt 64 (start + by))
+
+pub square_within : (mask by start : ℕ) → IsSwapMask mask by → start < 64 → IsSetFrom mask by start → start + 2 * by ≤ 64
+square_within mask by start is h set =
+    let some = is.some in
+    let inside = inside_by mask by start is h set in
+    let one = pair_within mask by (start + (by - 1)) is (omega arith) (set (by - 1) (omega arith) (omega arith)) in
+    omega (arith, one, some)
+
+clear_after : (mask by start i : ℕ) → IsSwapMask mask by → start < 64 → IsSetFrom mask by start → i < by → bit_at mask (start + by + i) ≡ 0
+clear_after mask by start i is h set below =
+    let within = square_within mask by start is h set in
+    let one = set i below (omega arith) in
+    let turn = is.turns (start + i) (omega arith) in
+    let place = ap (bit_at mask) (let e : start + i + by ≡ start + by + i = omega arith in e) in
+    omega (arith, one, turn, place)
+
+pub set_next : (mask by start : ℕ) → IsSwapMask mask by → start < 64 → IsSetFrom mask by start → IsSetFrom mask by (start + 2 * by)
+set_next mask by start is h set i below within =
+    let none = clear_after mask by start i is h set below in
+    let turn = is.turns (start + by + i) (omega arith) in
+    let place = ap (bit_at mask) (let e : start + by + i + by ≡ start + 2 * by + i = omega arith in e) in
+    omega (arith, none, turn, place)
+
+-- one more square
+pub one_swapped : (mask by start : ℕ) (old mid new : List ℕ) → IsSwapMask mask by → start < 64 → IsSetFrom mask by start → AreSwapped mask by start old mid
+    → ArePairsSwapped mask by start (start + by) mid new → AreSwapped mask by (start + 2 * by) old new
+one_swapped mask by start old mid new is h set before square = record {
+  done = λ r upto m. ⊎_elim
+      (λ (early : r < start).
+      along mask by r old mid new (before.done r early m) (square.below r early)
+      (⊎_elim
+      (λ (outer : r + by < start). square.below (r + by) outer)
+      (λ (inner : start ≤ r + by).
+      let inside = pair_within mask by r is (omega arith) m in
+      let turn = is.turns r inside in
+      let one = set (r + by - start) (omega arith) (omega arith) in
+      let place = ap (bit_at mask) (let e : start + (r + by - start) ≡ r + by = omega arith in e) in
+      absurd (omega (arith, turn, one, place, m)))
+      (cases_lt (r + by) start)))
+      (λ (late : start ≤ r). ⊎_elim
+      (λ (here : r < start + by). from_old mask by r old mid new (square.pairs r late here) (before.low r late m) (before.high r late m))
+      (λ (after : start + by ≤ r).
+      let none = clear_after mask by start (r - start - by) is h set (omega arith) in
+      let place = ap (bit_at mask) (let e : start + by + (r - start - by) ≡ r = omega arith in e) in
+      absurd (omega (arith, none, place, m)))
+      (cases_lt r (start + by)))
+      (cases_lt r start);
+  low = λ r from m. square.past r (omega arith) ∙ before.low r (omega arith) m;
+  high = λ r from m. square.past (r + by) (omega arith) ∙ before.high r (omega arith) m;
 }
 
 cross_is : (mask by r j a b : ℕ) → bit_at mask r ≡ a → bit_at mask j ≡ b → cross mask by r j ≡ cond (a == b) r (cond (a == 1) (r + by) (r - by))
@@ -91,10 +151,10 @@ cross_is mask by r j a b one two =
     ap (λ x. cond (x == bit_at mask j) r (cond (x == 1) (r + by) (r - by))) one ∙ ap (λ y. cond (a == y) r (cond (a == 1) (r + by) (r - by))) two
 
 -- all pairs are swapped: that is the round
-pub round_done : (mask by : ℕ) (old new : List ℕ) → IsSwapMask mask by → AreSwapped mask by 64 old new → IsRoundOf mask by old new
+pub round_done : (mask by : ℕ) (old new : List ℕ) → IsSwapMask mask by → ((r : ℕ) → r < 64 → bit_at mask r ≡ 1 → IsPairSwapped mask by r old new) → IsRoundOf mask by old new
 round_done mask by old new is all r j hr hj = ⊎_elim
     (λ (low : bit_at mask r ≡ 1).
-    let pair = all.done r hr low in
+    let pair = all r hr low in
     ⊎_elim
     (λ (one : bit_at mask j ≡ 1). pair.low_kept j hj one ∙ sym (at r j 1 1 low one))
     (λ (none : bit_at mask j ≡ 0). pair.low_taken j hj none ∙ sym (at r j 1 0 low none))
@@ -104,7 +164,7 @@ round_done mask by old new is all r j hr hj = ⊎_elim
     let back : r - by + by ≡ r = omega arith in
     let turn = is.turns (r - by) (omega arith) in
     let place = ap (bit_at mask) back in
-    let pair = all.done (r - by) (omega arith) (omega (arith, turn, place, high)) in
+    let pair = all (r - by) (omega arith) (omega (arith, turn, place, high)) in
     ⊎_elim
     (λ (one : bit_at mask j ≡ 1). ap (λ m. bit_at (get_or new m 0) j) (sym back) ∙ pair.high_taken j hj one ∙ sym (at r j 0 1 high one))
     (λ (none : bit_at mask j ≡ 0).
