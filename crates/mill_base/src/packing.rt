@@ -19,7 +19,15 @@ fn put_eight(out: &mut [u8], index: usize, bytes: &[u8; 8])
     ensures here { (j : ℕ) → j / 8 ≡ index → slice_index out.new j ≡ slice_index bytes.now (j % 8) }
     ensures others { (j : ℕ) → j / 8 ≢ index → slice_index out.new j ≡ slice_index out.old j }
 {
-    out[8 * index..8 * index + 8].copy_from_slice(bytes);
+    let place = &mut out[8 * index..8 * index + 8];
+    place[0] = bytes[0];
+    place[1] = bytes[1];
+    place[2] = bytes[2];
+    place[3] = bytes[3];
+    place[4] = bytes[4];
+    place[5] = bytes[5];
+    place[6] = bytes[6];
+    place[7] = bytes[7];
 }
 
 /// Puts as many of eight bytes from byte `at` on as there is room for.
@@ -49,6 +57,17 @@ pub fn pack(words: &[u64], out: &mut [u8])
     put_rest(out, 8 * whole, &bytes_of(words[whole]));
 }
 
+/// The eight bytes from byte `at` on, where they are all there.
+fn whole_eight(bytes: &[u8], at: usize) -> [u8; 8]
+    requires { at + 8 ≤ length bytes.now }
+    ensures { (j : ℕ) → j < 8 → slice_index result j ≡ slice_index bytes.now (at + j) }
+{
+    let eight = &bytes[at..at + 8];
+    [
+        eight[0], eight[1], eight[2], eight[3], eight[4], eight[5], eight[6], eight[7],
+    ]
+}
+
 fn byte_or_zero(bytes: &[u8], at: usize) -> u8
     ensures { result ≡ slice_index bytes.now at }
 {
@@ -60,6 +79,9 @@ fn eight_from(bytes: &[u8], at: usize) -> [u8; 8]
     requires { at < 2 ^ 62 }
     ensures { (j : ℕ) → j < 8 → slice_index result j ≡ slice_index bytes.now (at + j) }
 {
+    if at + 8 <= bytes.len() {
+        return whole_eight(bytes, at);
+    }
     let mut eight = [0u8; 8];
     for j in 0..8 {
         eight[j] = byte_or_zero(bytes, at + j);
