@@ -4,10 +4,23 @@ ghost use Rattle.mill_base.specs.Lines.{cell_round, line_by, same};
 ghost use Rattle.mill_base.specs.declared.limits.TheConstants.{MAX_ENDS};
 
 use crate::bit_row::BitRow;
-use crate::joint::{Alike, Both, Either, join};
+use crate::joint::{Alike, Both, Either};
 use crate::row_words::same_words;
-use crate::turning::{WORDS, clear_past, copied, filled, merged_words, turned, word_count};
+use crate::turning::{WORDS, are_clear, copied, filled, join_turned, merged_words, word_count};
 use std::marker::Model;
+
+/// Room for a line that is turned. Blocks are worked on in place with it; what it holds between two calls is of no use.
+#[derive(Drop)]
+pub struct Spare {
+    words: [u64; WORDS],
+}
+
+impl Spare {
+    /// Room for the longest line.
+    pub fn new() -> Spare {
+        Spare { words: [0; WORDS] }
+    }
+}
 
 /// A cyclic line of 1 to `MAX_ENDS` truth values, whose last position is followed by its first. It is worked through by whole
 /// words, and none of its calls takes memory.
@@ -63,17 +76,29 @@ impl BitBlock {
         self.len
     }
 
+    fn copied(&self) -> BitBlock
+        ensures { result ≡ self.now }
+    {
+        BitBlock {
+            len: self.len,
+            words: self.words,
+        }
+    }
+
     /// Where the truth value is that of the next position, round the end.
     pub fn same_next(&self) -> BitBlock
         ensures { result ≡ line_by (length self.now) (λ k. same (slice_index_or self.now k false) (cell_round self.now (k + 1))) }
     {
-        let mut words = turned(&self.words, self.len, 1);
-        join::<Alike>(&self.words, &mut words, word_count(self.len));
-        clear_past(&mut words, self.len);
-        BitBlock {
-            len: self.len,
-            words,
-        }
+        let mut found = self.copied();
+        found.mark_same_next(&mut Spare::new());
+        found
+    }
+
+    /// `same_next` in place.
+    pub fn mark_same_next(&mut self, spare: &mut Spare)
+        ensures { self.new ≡ line_by (length self.old) (λ k. same (slice_index_or self.old k false) (cell_round self.old (k + 1))) }
+    {
+        join_turned::<Alike>(&mut self.words, self.len, 1, &mut spare.words);
     }
 
     /// Where it is true, and also true `by` positions on, round the end.
@@ -81,12 +106,17 @@ impl BitBlock {
         requires { by < length self.now }
         ensures { result ≡ line_by (length self.now) (λ k. slice_index_or self.now k false && cell_round self.now (k + by)) }
     {
-        let mut words = turned(&self.words, self.len, by);
-        join::<Both>(&self.words, &mut words, word_count(self.len));
-        BitBlock {
-            len: self.len,
-            words,
-        }
+        let mut found = self.copied();
+        found.keep_ahead(by, &mut Spare::new());
+        found
+    }
+
+    /// `and_ahead` in place.
+    pub fn keep_ahead(&mut self, by: u32, spare: &mut Spare)
+        requires { by < length self.old }
+        ensures { self.new ≡ line_by (length self.old) (λ k. slice_index_or self.old k false && cell_round self.old (k + by)) }
+    {
+        join_turned::<Both>(&mut self.words, self.len, by, &mut spare.words);
     }
 
     /// Where it is true, or true `by` positions before, round the end.
@@ -94,12 +124,17 @@ impl BitBlock {
         requires { by < length self.now }
         ensures { result ≡ line_by (length self.now) (λ k. slice_index_or self.now k false || cell_round self.now (k + length self.now - by)) }
     {
-        let mut words = turned(&self.words, self.len, self.len - by);
-        join::<Either>(&self.words, &mut words, word_count(self.len));
-        BitBlock {
-            len: self.len,
-            words,
-        }
+        let mut found = self.copied();
+        found.join_behind(by, &mut Spare::new());
+        found
+    }
+
+    /// `or_behind` in place.
+    pub fn join_behind(&mut self, by: u32, spare: &mut Spare)
+        requires { by < length self.old }
+        ensures { self.new ≡ line_by (length self.old) (λ k. slice_index_or self.old k false || cell_round self.old (k + length self.old - by)) }
+    {
+        join_turned::<Either>(&mut self.words, self.len, self.len - by, &mut spare.words);
     }
 
     /// The truth value of one line where this one is true, and of another line elsewhere.
@@ -119,6 +154,13 @@ impl BitBlock {
         ensures { IsTrue result ↔ ((k : ℕ) → k < length self.now → slice_index_or self.now k false ≡ true) }
     {
         same_words(&self.words, &filled(self.len, true))
+    }
+
+    /// Whether no position is true.
+    pub fn none(&self) -> bool
+        ensures { IsTrue result ↔ ((k : ℕ) → k < length self.now → slice_index_or self.now k false ≡ false) }
+    {
+        are_clear(&self.words, word_count(self.len))
     }
 
     /// Writes the line into a row of as many positions.

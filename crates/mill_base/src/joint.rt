@@ -45,14 +45,15 @@ impl Joint for Alike {
     }
 }
 
-/// Joins the first `count` words of a line with those that stand in a block, which the joined ones replace.
-pub fn join<J: Joint>(line: &[u64], words: &mut [u64], count: usize)
-    requires line { count ≤ length line.now }
+/// Joins the first `count` words of a line with those of another, which stand in the same places, and leaves the joined ones there.
+pub fn join<J: Joint>(words: &mut [u64], others: &[u64], count: usize)
     requires words { count ≤ length words.old }
+    requires others { count ≤ length others.now }
     ensures len { length words.new ≡ length words.old }
-    ensures joined { AreJoined J.cell line.now words.old count words.new }
+    ensures joined { AreJoined J.cell words.old others.now count words.new }
 {
-    for index in 0..count {
-        words[index] = J::word(line[index], words[index]);
+    let others = &others[..count];
+    for index in 0..count.min(words.len()) {
+        words[index] = J::word(words[index], others[index]);
     }
 }

@@ -1,12 +1,13 @@
 //! Lines in blocks of words, turned round their end.
-ghost use Rattle.std.specs.Prelude.{◌≡◌, ℕ, ◌+◌, ◌-◌, ◌*◌, ◌/◌, ◌^◌, ◌<◌, ◌≤◌, ◌==◌, ◌||◌, false, length, if◌then◌else◌};
+ghost use Rattle.std.specs.Prelude.{◌≡◌, ℕ, ◌+◌, ◌-◌, ◌*◌, ◌/◌, ◌^◌, ◌<◌, ◌≤◌, ◌==◌, ◌||◌, ◌↔◌, IsTrue, false, length, if◌then◌else◌};
 ghost use Rattle.std.specs.Int.{bit_at};
 ghost use Rattle.mill_base.specs.Bits.{bit_of};
 ghost use Rattle.mill_base.specs.inner.Blocks.{IsAgain};
 ghost use Rattle.mill_base.specs.inner.Stretches.{AreLaid};
 ghost use Rattle.mill_base.specs.inner.Turnings.{Turned};
 
-use crate::word::{bits_from, low_bits, merged};
+use crate::joint::{Joint, join};
+use crate::word::{bits_from, joined, low_bits, merged};
 
 /// The words of a block: as many as `MAX_ENDS` bits take.
 pub const WORDS: usize = 256;
@@ -24,7 +25,7 @@ pub fn copied(from: &[u64]) -> [u64; WORDS]
     ensures { (k : ℕ) → bit_of result k ≡ bit_of from.now k }
 {
     let mut words = [0; WORDS];
-    for index in 0..from.len() {
+    for index in 0..from.len().min(WORDS) {
         words[index] = from[index];
     }
     words
@@ -53,6 +54,21 @@ fn clear_words(words: &mut [u64], from: usize)
     }
 }
 
+/// Clears those bits past the first `len` that stand in a word with some of them.
+fn clear_rest(words: &mut [u64], len: u32)
+    requires { len ≤ 64 * length words.old }
+    ensures len { length words.new ≡ length words.old }
+    ensures below { (k : ℕ) → k < len → bit_of words.new k ≡ bit_of words.old k }
+    ensures rest { (k : ℕ) → len ≤ k → k < 64 * ((len + 63) / 64) → bit_of words.new k ≡ false }
+    ensures past { (k : ℕ) → 64 * ((len + 63) / 64) ≤ k → bit_of words.new k ≡ bit_of words.old k }
+{
+    let rest = len % 64;
+    if rest > 0 {
+        let last = (len / 64) as usize;
+        words[last] = low_bits(words[last], rest);
+    }
+}
+
 /// Clears the bits past the first `len`.
 pub fn clear_past(words: &mut [u64], len: u32)
     requires { len ≤ 64 * length words.old }
@@ -61,11 +77,67 @@ pub fn clear_past(words: &mut [u64], len: u32)
     ensures past { (k : ℕ) → len ≤ k → bit_of words.new k ≡ false }
 {
     clear_words(words, word_count(len));
-    let rest = len % 64;
-    if rest > 0 {
-        let last = (len / 64) as usize;
-        words[last] = low_bits(words[last], rest);
+    clear_rest(words, len);
+}
+
+/// Whether the first `count` words are clear.
+pub fn are_clear(words: &[u64], count: usize) -> bool
+    requires { count ≤ length words.now }
+    ensures { IsTrue result ↔ ((k : ℕ) → k < 64 * count → bit_of words.now k ≡ false) }
+{
+    for index in 0..count {
+        if words[index] != 0 {
+            return false;
+        }
     }
+    true
+}
+
+/// Makes each word of the upper bits of one word, from bit `shift` on, and the lower bits of the next.
+fn shift_words(from: &[u64], shift: u32, out: &mut [u64])
+    requires from { length out.old < length from.now }
+    requires some { 0 < shift }
+    requires within { shift < 64 }
+    ensures len { length out.new ≡ length out.old }
+    ensures bits { (k : ℕ) → k < 64 * length out.old → bit_of out.new k ≡ bit_of from.now (shift + k) }
+{
+    let count = out.len();
+    let low = &from[..count];
+    let high = &from[1..count + 1];
+    for index in 0..count {
+        out[index] = joined(low[index], high[index], shift);
+    }
+}
+
+/// Copies words, their bits moved down by `shift`.
+fn move_words(from: &[u64], shift: u32, out: &mut [u64])
+    requires from { length out.old < length from.now }
+    requires within { shift < 64 }
+    ensures len { length out.new ≡ length out.old }
+    ensures bits { (k : ℕ) → k < 64 * length out.old → bit_of out.new k ≡ bit_of from.now (shift + k) }
+{
+    if shift > 0 {
+        shift_words(from, shift, out);
+    } else {
+        out.copy_from_slice(&from[..out.len()]);
+    }
+}
+
+/// Puts the bits from bit `start` on in place of those of `count` words from word `at` on, where the words that hold them are followed
+/// by one more.
+fn lay_inner(from: &[u64], start: usize, out: &mut [u64], at: usize, count: usize)
+    requires room { at + count ≤ length out.old }
+    requires start { 0 < count → start / 64 + count < length from.now }
+    ensures { AreLaid out.old (64 * at) (64 * count) (λ i. bit_of from.now (start + i)) out.new }
+{
+    if count == 0 {
+        return;
+    }
+    move_words(
+        &from[start / 64..],
+        (start % 64) as u32,
+        &mut out[at..at + count],
+    );
 }
 
 /// Puts the 64 bits from bit `start` on in place of word `at`, the next 64 in place of the next word, for `count` words.
@@ -74,7 +146,9 @@ fn lay_words(from: &[u64], start: usize, out: &mut [u64], at: usize, count: usiz
     requires start { start + 64 * count < 2 ^ 63 }
     ensures { AreLaid out.old (64 * at) (64 * count) (λ i. bit_of from.now (start + i)) out.new }
 {
-    for done in 0..count {
+    let inner = count.min(from.len().saturating_sub(start / 64 + 1));
+    lay_inner(from, start, out, at, inner);
+    for done in inner..count {
         out[at + done] = bits_from(from, start + 64 * done);
     }
 }
@@ -102,29 +176,41 @@ fn with_start(word: u64, first: u64, past: u32) -> u64
     word | (first << past)
 }
 
-/// A line turned: its bit k is bit k + by of `words`, counted round the first `len`.
-pub fn turned(words: &[u64], len: u32, by: u32) -> [u64; WORDS]
+/// Writes a line turned: bit k of `out` is bit k + by of `words`, counted round the first `len`.
+fn turn_into(words: &[u64], len: u32, by: u32, out: &mut [u64])
     requires words { length words.now ≡ WORDS }
+    requires out { length out.old ≡ WORDS }
     requires len { len ≤ 64 * WORDS }
     requires by { by ≤ len }
     requires clear { (k : ℕ) → len ≤ k → bit_of words.now k ≡ false }
-    ensures turned { Turned words.now len by result len }
-    ensures clear { (k : ℕ) → len ≤ k → bit_of result k ≡ false }
+    ensures len { length out.new ≡ length out.old }
+    ensures turned { Turned words.now len by out.new len }
 {
     let behind = (len - by) as usize;
     let whole = (behind + 63) / 64;
-    let mut out = [0; WORDS];
-    lay_words(words, by as usize, &mut out, 0, whole);
+    lay_words(words, by as usize, out, 0, whole);
     lay_words(
         words,
         64 * whole - behind,
-        &mut out,
+        out,
         whole,
         word_count(len) - whole,
     );
-    start_again(words, behind, &mut out);
-    clear_past(&mut out, len);
-    out
+    start_again(words, behind, out);
+}
+
+/// Joins a line with itself, turned. `spare` takes the turned line.
+pub fn join_turned<J: Joint>(words: &mut [u64; WORDS], len: u32, by: u32, spare: &mut [u64; WORDS])
+    requires len { len ≤ 64 * WORDS }
+    requires by { by ≤ len }
+    requires clear { (k : ℕ) → len ≤ k → bit_of words.old k ≡ false }
+    ensures turned { Turned words.old len by spare.new len }
+    ensures joined { (k : ℕ) → k < len → bit_of words.new k ≡ J.cell (bit_of words.old k) (bit_of spare.new k) }
+    ensures clear { (k : ℕ) → len ≤ k → bit_of words.new k ≡ false }
+{
+    turn_into(words, len, by, spare);
+    join::<J>(words, spare, word_count(len));
+    clear_rest(words, len);
 }
 
 /// The bits of one block where a mask is set, and those of another elsewhere.

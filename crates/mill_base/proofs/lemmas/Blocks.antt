@@ -1,11 +1,12 @@
 -- Blocks of words, joined and turned bit by bit.
-use Rattle.std.proofs.Common.{◌≡◌, ◌≢◌, ◌+◌, ◌-◌, ◌*◌, ◌/◌, ◌%◌, ◌^◌, ◌<◌, ◌≤◌, ◌==◌, ◌&&◌, ◌||◌, ℕ, zero, suc, Bool, false, not, cond, List, length, get_or, set, replicate, min, refl, sym, ap, subst, ◌∙◌, ⊎_elim, bit_and, length-set, get_or-set_same, get_or-set_other, arith}
+use Rattle.std.proofs.Common.{◌≡◌, ◌≢◌, ◌+◌, ◌-◌, ◌*◌, ◌/◌, ◌%◌, ◌^◌, ◌<◌, ◌≤◌, ◌==◌, ◌&&◌, ◌||◌, ℕ, zero, suc, Bool, false, not, cond, List, length, get_or, set, take, drop, ◌++◌, replicate, min, refl, sym, ap, subst, ◌∙◌, ⊎_elim, bit_and, length-set, get_or-set_same, get_or-set_other, arith}
 use Rattle.std.specs.Int.{bit_at}
 use lib.Bits.{bit_xor}
 use Rattle.std.proofs.Math.Nat.{mod-eq_of_lt, mod-eq-sub-mod}
 use Rattle.std.proofs.lemmas.Bool.{cases_lt, cases_eq, cond-true, cond-false}
 use Rattle.std.proofs.lemmas.Bool.Decides.{nat_tests}
-use Rattle.std.proofs.lemmas.List.{get_or-replicate, length-replicate, get_or_past}
+use Rattle.std.proofs.lemmas.List.{get_or-replicate, length-replicate, get_or_past, get_or-take, get_or-drop, length-append, length-drop, length-take-le, take_all}
+use Rattle.std.proofs.lemmas.Slice.{take-put_mid_below, between-put_mid, drop-put_mid}
 use Rattle.std.proofs.lemmas.Nat.Bits.{bit_at_and, bit_at_xor, bit_at-lt, bit_at-zero}
 use Rattle.mill_base.specs.Bits.{bit_of, bits_of}
 use Rattle.mill_base.specs.inner.Stretches.{AreLaid}
@@ -59,6 +60,62 @@ word_laid old mid at done word cell there before is = record {
   below = λ k h. bit_of_set_others mid (at + done) word k (omega arith) ∙ before.below k h;
   past = λ k h. bit_of_set_others mid (at + done) word k (omega arith) ∙ before.past k (omega arith);
 }
+
+-- one more word is moved down
+pub word_moved : (from out : List ℕ) (shift i word : ℕ) → i < length out → shift < 64
+    → ((j : ℕ) → j + shift < 64 → bit_at word j ≡ bit_at (get_or from i 0) (j + shift))
+    → ((j : ℕ) → j < 64 → 64 ≤ j + shift → bit_at word j ≡ bit_at (get_or from (i + 1) 0) (j + shift - 64))
+    → ((k : ℕ) → k < 64 * i → bit_of out k ≡ bit_of from (shift + k))
+    → (k : ℕ) → k < 64 * (i + 1) → bit_of (set out i word) k ≡ bit_of from (shift + k)
+word_moved from out shift i word there within low high before k h = ⊎_elim
+    (λ (at : k / 64 ≡ i).
+    bit_of_set_here out i word k there at ∙ ⊎_elim
+    (λ (inner : k % 64 + shift < 64). ap (λ b. b == 1) (low (k % 64) inner) ∙ place i (k % 64 + shift) (omega arith) (omega arith))
+    (λ (outer : 64 ≤ k % 64 + shift).
+    ap (λ b. b == 1) (high (k % 64) (omega arith) outer) ∙ place (i + 1) (k % 64 + shift - 64) (omega arith) (omega arith))
+    (cases_lt (k % 64 + shift) 64))
+    (λ (off : k / 64 ≢ i). bit_of_set_others out i word k off ∙ before k (omega arith))
+    (cases_eq (k / 64) i) where
+      place : (q r : ℕ) → (shift + k) / 64 ≡ q → (shift + k) % 64 ≡ r → (bit_at (get_or from q 0) r == 1) ≡ bit_of from (shift + k)
+      place q r e f = ap (λ r. bit_at (get_or from q 0) r == 1) (sym f) ∙ ap (λ q. bit_at (get_or from q 0) ((shift + k) % 64) == 1) (sym e)
+
+-- the bits of words behind the first
+pub bit_dropped : (words : List ℕ) (some first k : ℕ) → length words ≤ some + first → bit_of (take some (drop first words)) k ≡ bit_of words (64 * first + k)
+bit_dropped words some first k all =
+    let long = length-drop first words in
+    ap (λ l. bit_of l k) (take_all some (drop first words) (omega arith))
+    ∙ ap (λ w. bit_at w (k % 64) == 1) (get_or-drop first words (k / 64) 0)
+    ∙ ap (λ q. bit_at (get_or words q 0) (k % 64) == 1) (let e : first + k / 64 ≡ (64 * first + k) / 64 = omega arith in e)
+    ∙ ap (λ r. bit_at (get_or words ((64 * first + k) / 64) 0) r == 1) (let e : k % 64 ≡ (64 * first + k) % 64 = omega arith in e)
+
+-- words are put in place of others
+pub part_laid : (old part : List ℕ) (at k count : ℕ) (cell : ℕ → Bool) → at + count ≤ length old → k ≡ count → length part ≡ count → ((i : ℕ) → i < 64 * count → bit_of part i ≡ cell i)
+    → AreLaid old (64 * at) (64 * count) cell (take at old ++ (part ++ drop k (drop at old)))
+part_laid old part at k count cell room is long bits = record {
+  len = omega (arith, length-append (take at old) (part ++ drop k (drop at old)), length-append part (drop k (drop at old)), length-take-le at old (omega arith), length-drop at old, length-drop k (drop at old));
+  here = λ i h.
+      ap (λ q. bit_at (get_or new q 0) ((64 * at + i) % 64) == 1) (let e : (64 * at + i) / 64 ≡ at + i / 64 = omega arith in e)
+      ∙ ap (λ r. bit_at (get_or new (at + i / 64) 0) r == 1) (let e : (64 * at + i) % 64 ≡ i % 64 = omega arith in e)
+      ∙ ap (λ w. bit_at w (i % 64) == 1) (within (i / 64) (omega arith)) ∙ bits i h;
+  below = λ j h. bit_of_word new old j (before (j / 64) (omega arith));
+  past = λ j h. bit_of_word new old j (behind (j / 64) (omega arith));
+} where
+  new : List ℕ
+  new = take at old ++ (part ++ drop k (drop at old))
+
+  before : (j : ℕ) → j < at → get_or new j 0 ≡ get_or old j 0
+  before j h = sym (get_or-take at new j 0 h) ∙ ap (λ l. get_or l j 0) (take-put_mid_below at k old part at (omega arith) (omega arith)) ∙ get_or-take at old j 0 h
+
+  within : (j : ℕ) → j < count → get_or new (at + j) 0 ≡ get_or part j 0
+  within j h = sym (get_or-drop at new j 0) ∙ sym (get_or-take (at + count - at) (drop at new) j 0 (omega arith))
+      ∙ ap (λ l. get_or l j 0) (between-put_mid at k old part (at + count) (omega arith) (omega arith))
+
+  behind : (j : ℕ) → at + count ≤ j → get_or new j 0 ≡ get_or old j 0
+  behind j h =
+      let i = j - (at + count) in
+      let e : j ≡ at + count + i = omega arith in
+      ap (λ q. get_or new q 0) e ∙ sym (get_or-drop (at + count) new i 0) ∙ ap (λ l. get_or l i 0) (drop-put_mid at k old part (at + count) (omega arith) (omega arith) (omega arith))
+      ∙ get_or-drop (at + count) old i 0 ∙ ap (λ q. get_or old q 0) (sym e)
 
 -- one more word is written into an empty block
 pub record AreCopied (from : List ℕ) (size count : ℕ) (words : List ℕ) : Type 0 where

@@ -2,7 +2,7 @@
 use Rattle.std.proofs.Common.{◌≡◌, ◌+◌, ◌-◌, ◌*◌, ◌/◌, ◌%◌, ◌^◌, ◌<◌, ◌≤◌, ◌==◌, ℕ, Bool, false, List, length, get_or, sym, ap, ◌∙◌, ⊎_elim, w64, arith}
 use Rattle.std.specs.Int.{bit_at, trailing_zeros}
 use Rattle.std.proofs.lemmas.Bool.{both_ways, cases_lt}
-use Rattle.std.proofs.lemmas.Nat.Bits.{bit_at-zero, bit_at-trailing_zeros}
+use Rattle.std.proofs.lemmas.Nat.Bits.{bit_at-zero, bit_at-trailing_zeros, bit_at_above}
 use Rattle.std.proofs.lemmas.List.{get_or_past}
 use Rattle.mill_base.specs.Bits.{bit_of, bits_of, IsRow}
 use Rattle.mill_base.specs.Firsts.{IsFirstTrue}
@@ -58,3 +58,18 @@ first_true words given n row from k same room is first =
       here = here;
       before = λ j after below. sym (cell_is words given n row same room is j) ∙ first.before j after below;
     }
+
+-- a word that is not zero has a bit
+pub some_bit : (words : List ℕ) (i : ℕ) → 0 < get_or words i 0 → get_or words i 0 < 2 ^ 64 → ((k : ℕ) → k < 64 * (i + 1) → bit_of words k ≡ false) → ⊥
+some_bit words i some fits none =
+    let word = get_or words i 0 in
+    let t = trailing_zeros w64 word in
+    let one = (bit_at-trailing_zeros w64 word some fits).1 in
+    let within : t < 64 = ⊎_elim
+    (λ (h : t < 64). h)
+    (λ (h : 64 ≤ t). absurd (let clear = bit_at_above word 64 t fits h in omega (arith, one, clear)))
+    (cases_lt t 64) in
+    let e : (64 * i + t) / 64 ≡ i = omega arith in
+    let f : (64 * i + t) % 64 ≡ t = omega arith in
+    both_ways (bit_of words (64 * i + t)) (none (64 * i + t) (omega arith))
+    (ap (λ q. bit_at (get_or words q 0) ((64 * i + t) % 64) == 1) e ∙ ap (λ r. bit_at word r == 1) f ∙ ap (λ b. b == 1) one)

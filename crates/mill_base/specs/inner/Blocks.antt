@@ -9,9 +9,9 @@ pub record IsBlock (words : List ℕ) (n : ℕ) : Type 0 where
   pub most : n ≤ MAX_ENDS
   pub clear : (k : ℕ) → n ≤ k → bit_of words k ≡ false
 
--- bit by bit, the first `count` words are those of a line joined with the old ones, and the others stay
-pub record AreJoined (cell : Bool → Bool → Bool) (line old : List ℕ) (count : ℕ) (new : List ℕ) : Type 0 where
-  pub here : (k : ℕ) → k < 64 * count → bit_of new k ≡ cell (bit_of line k) (bit_of old k)
+-- bit by bit, the first `count` words are the old ones joined with others, and the rest stay
+pub record AreJoined (cell : Bool → Bool → Bool) (old others : List ℕ) (count : ℕ) (new : List ℕ) : Type 0 where
+  pub here : (k : ℕ) → k < 64 * count → bit_of new k ≡ cell (bit_of old k) (bit_of others k)
   pub past : (k : ℕ) → 64 * count ≤ k → bit_of new k ≡ bit_of old k
 
 -- bits `behind` .. of a word's rest are joined with the first bits of a line

@@ -5,5 +5,5 @@ use Rattle.mill_base.proofs.joint.join.Given as goal
 abbrev pub invariant-loop-index : goal.invariant-loop-index
 invariant-loop-index g l = record {
   long : length l.words ≡ length l.initial.words;
-  joined : AreJoined g.J.Joint.cell l.line l.initial.words l.index l.words;
+  joined : AreJoined g.J.Joint.cell l.initial.words l.others l.index l.words;
 }

@@ -4,4 +4,4 @@ use Rattle.mill_base.specs.inner.Stretches.{AreLaid}
 use Rattle.mill_base.proofs.turning.lay_words.Given as goal
 
 abbrev pub invariant-loop-done : goal.invariant-loop-done
-invariant-loop-done l = AreLaid l.initial.out (64 * l.at) (64 * l.done) (λ i. bit_of l.from (l.start + i)) l.out
+invariant-loop-done l = AreLaid l.fn.out (64 * l.at) (64 * l.done) (λ i. bit_of l.from (l.start + i)) l.out

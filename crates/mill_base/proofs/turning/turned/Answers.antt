@@ -1,7 +1,0 @@
-use Rattle.mill_base.proofs.lemmas.Blocks.{line_turned}
-use Rattle.mill_base.proofs.turning.turned.Goals as goal
-
-pub returns-clause-turned : goal.returns-clause-turned
-returns-clause-turned c =
-    line_turned c.args.words.now _ c.lay_words.new.out c.lay_words-2.new.out c.start_again.new.out c.clear_past.new.words c.args.len c.args.by c.word_count.result
-    c.requires.by c.word_count.ensures c.requires.clear c.lay_words.ensures c.lay_words-2.ensures c.start_again.ensures.again c.clear_past.ensures.below
