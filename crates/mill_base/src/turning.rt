@@ -7,7 +7,8 @@ ghost use Rattle.mill_base.specs.inner.Stretches.{AreLaid};
 ghost use Rattle.mill_base.specs.inner.Turnings.{Turned};
 
 use crate::joint::{Joint, join};
-use crate::word::{bits_from, joined, low_bits, merged};
+use crate::stretch::copy_words;
+use crate::word::{bits_from, low_bits, merged};
 
 /// The words of a block: as many as `MAX_ENDS` bits take.
 pub const WORDS: usize = 256;
@@ -93,53 +94,6 @@ pub fn are_clear(words: &[u64], count: usize) -> bool
     true
 }
 
-/// Makes each word of the upper bits of one word, from bit `shift` on, and the lower bits of the next.
-fn shift_words(from: &[u64], shift: u32, out: &mut [u64])
-    requires from { length out.old < length from.now }
-    requires some { 0 < shift }
-    requires within { shift < 64 }
-    ensures len { length out.new ≡ length out.old }
-    ensures bits { (k : ℕ) → k < 64 * length out.old → bit_of out.new k ≡ bit_of from.now (shift + k) }
-{
-    let count = out.len();
-    let low = &from[..count];
-    let high = &from[1..count + 1];
-    for index in 0..count {
-        out[index] = joined(low[index], high[index], shift);
-    }
-}
-
-/// Copies words, their bits moved down by `shift`.
-fn move_words(from: &[u64], shift: u32, out: &mut [u64])
-    requires from { length out.old < length from.now }
-    requires within { shift < 64 }
-    ensures len { length out.new ≡ length out.old }
-    ensures bits { (k : ℕ) → k < 64 * length out.old → bit_of out.new k ≡ bit_of from.now (shift + k) }
-{
-    if shift > 0 {
-        shift_words(from, shift, out);
-    } else {
-        out.copy_from_slice(&from[..out.len()]);
-    }
-}
-
-/// Puts the bits from bit `start` on in place of those of `count` words from word `at` on, where the words that hold them are followed
-/// by one more.
-fn lay_inner(from: &[u64], start: usize, out: &mut [u64], at: usize, count: usize)
-    requires room { at + count ≤ length out.old }
-    requires start { 0 < count → start / 64 + count < length from.now }
-    ensures { AreLaid out.old (64 * at) (64 * count) (λ i. bit_of from.now (start + i)) out.new }
-{
-    if count == 0 {
-        return;
-    }
-    move_words(
-        &from[start / 64..],
-        (start % 64) as u32,
-        &mut out[at..at + count],
-    );
-}
-
 /// Puts the 64 bits from bit `start` on in place of word `at`, the next 64 in place of the next word, for `count` words.
 fn lay_words(from: &[u64], start: usize, out: &mut [u64], at: usize, count: usize)
     requires room { at + count ≤ length out.old }
@@ -147,7 +101,7 @@ fn lay_words(from: &[u64], start: usize, out: &mut [u64], at: usize, count: usiz
     ensures { AreLaid out.old (64 * at) (64 * count) (λ i. bit_of from.now (start + i)) out.new }
 {
     let inner = count.min(from.len().saturating_sub(start / 64 + 1));
-    lay_inner(from, start, out, at, inner);
+    copy_words(from, start, out, at, inner);
     for done in inner..count {
         out[at + done] = bits_from(from, start + 64 * done);
     }

@@ -1,6 +1,7 @@
 -- Stretches of bits that are laid piece by piece.
-use Rattle.std.proofs.Common.{◌≡◌, ◌≢◌, ◌+◌, ◌-◌, ◌*◌, ◌/◌, ◌%◌, ◌<◌, ◌≤◌, ◌==◌, ◌||◌, ℕ, Bool, false, List, length, get_or, set, sym, ap, subst, ◌∙◌, ⊎_elim, refl, length-set, map, not, bit_or, max, arith}
+use Rattle.std.proofs.Common.{◌≡◌, ◌≢◌, ◌+◌, ◌-◌, ◌*◌, ◌/◌, ◌%◌, ◌<◌, ◌≤◌, ◌==◌, ◌||◌, ℕ, Bool, false, List, length, get_or, set, sym, ap, subst, ◌∙◌, ⊎_elim, refl, length-set, map, not, bit_or, max, take, drop, ◌++◌, arith}
 use Rattle.std.specs.Int.{bit_at}
+use Rattle.std.proofs.Math.Seq.{take-append_seam}
 use Rattle.std.proofs.lemmas.Bool.{cases_eq, cases_lt}
 use Rattle.std.proofs.lemmas.List.{length-map, get_or-map}
 use Rattle.std.proofs.lemmas.Bool.Decides.{nat_tests}
@@ -50,6 +51,20 @@ more_laid old mid new at done count cell piece before more same = record {
   past = λ k h. more.past k (omega arith) ∙ before.past k (omega arith);
 }
 
+-- the same bits, told otherwise
+pub same_laid : (old new : List ℕ) (at count : ℕ) (one other : ℕ → Bool) → AreLaid old at count one new → ((i : ℕ) → i < count → one i ≡ other i) → AreLaid old at count other new
+same_laid old new at count one other laid same = record { len = laid.len; here = λ i h. laid.here i h ∙ same i h; below = laid.below; past = laid.past }
+
+-- words that are laid as a slice of a list are the list's
+pub slice_laid : (old given new : List ℕ) (len place at count : ℕ) (one other : ℕ → Bool) → given ≡ old → len ≡ length old → place ≡ at → AreLaid given place count one new
+    → ((i : ℕ) → i < count → one i ≡ other i) → AreLaid old at count other (take len (new ++ drop (length new) old))
+slice_laid old given new len place at count one other is long there laid same =
+    let whole : len ≡ length new = long ∙ ap length (sym is) ∙ sym laid.len in
+    let words : take len (new ++ drop (length new) old) ≡ new = ap (λ n. take n (new ++ drop (length new) old)) whole ∙ take-append_seam new (drop (length new) old) in
+    subst (AreLaid old at count other) (sym words)
+    (same_laid old new at count one other
+    (subst (λ (n : ℕ). AreLaid old n count one new) there (subst (λ (ws : List ℕ). AreLaid ws place count one new) is laid)) same)
+
 -- the words stay a row
 pub row_laid : (old new : List ℕ) (n at count : ℕ) (cell : ℕ → Bool) → IsRow old n → at + count ≤ n → AreLaid old at count cell new → IsRow new n
 row_laid old new n at count cell row within laid = record {
@@ -89,6 +104,14 @@ row_is_laid old new n at count cell value row room is within laid same =
 pub joined_cell : (old mid given : List ℕ) (at done i : ℕ) (piece cell : Bool) → given ≡ mid → ((k : ℕ) → at + done ≤ k → bit_of mid k ≡ bit_of old k) → piece ≡ cell
     → (bit_of given (at + done + i) || piece) ≡ (bit_of old (at + (done + i)) || cell)
 joined_cell old mid given at done i piece cell is past same = rw (is, past (at + done + i) (omega arith), same) (ap (λ k. bit_of old k || cell) (omega arith))
+
+-- a bit of a word that is not laid yet
+pub bit_not_laid : (old mid : List ℕ) (at done i : ℕ) → i < 64 → ((k : ℕ) → 64 * at + 64 * done ≤ k → bit_of mid k ≡ bit_of old k)
+    → (bit_at (get_or mid (at + done) 0) i == 1) ≡ bit_of old (64 * at + (64 * done + i))
+bit_not_laid old mid at done i within past =
+    ap (λ q. bit_at (get_or mid q 0) i == 1) (let e : at + done ≡ (64 * at + (64 * done + i)) / 64 = omega arith in e)
+    ∙ ap (λ r. bit_at (get_or mid ((64 * at + (64 * done + i)) / 64) 0) r == 1) (let e : i ≡ (64 * at + (64 * done + i)) % 64 = omega arith in e)
+    ∙ past (64 * at + (64 * done + i)) (omega arith)
 
 pub same_join : (a b c d : Bool) → a ≡ c → b ≡ d → (a || b) ≡ (c || d)
 same_join a b c d e f = rw (e, f) refl

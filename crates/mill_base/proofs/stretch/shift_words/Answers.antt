@@ -2,7 +2,7 @@ use Rattle.std.proofs.Common.{◌+◌, ◌-◌, ◌∙◌, length, get_or, drop,
 use Rattle.std.proofs.lemmas.List.{get_or-take, get_or-drop}
 use Rattle.std.specs.Int.{bit_at}
 use Rattle.mill_base.proofs.lemmas.Blocks.{word_moved}
-use Rattle.mill_base.proofs.turning.shift_words.Goals as goal
+use Rattle.mill_base.proofs.stretch.shift_words.Goals as goal
 
 pub loop-index-preserved : goal.loop-index-preserved
 loop-index-preserved c = record {

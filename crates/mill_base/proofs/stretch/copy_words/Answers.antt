@@ -2,7 +2,7 @@ use Rattle.std.proofs.Common.{◌≡◌, ◌+◌, ◌-◌, ◌*◌, ◌/◌, ◌
 use Rattle.std.proofs.lemmas.List.{length-drop, length-take-le}
 use Rattle.mill_base.specs.Bits.{bit_of}
 use Rattle.mill_base.proofs.lemmas.Blocks.{bit_dropped, part_laid}
-use Rattle.mill_base.proofs.turning.lay_inner.Goals as goal
+use Rattle.mill_base.proofs.stretch.copy_words.Goals as goal
 
 pub returns : goal.returns
 returns c =

@@ -1,6 +1,6 @@
 use Rattle.std.proofs.Common.{◌≡◌, ◌+◌, ◌*◌, ◌<◌, ℕ, length}
 use Rattle.mill_base.specs.Bits.{bit_of}
-use Rattle.mill_base.proofs.turning.shift_words.Given as goal
+use Rattle.mill_base.proofs.stretch.shift_words.Given as goal
 
 abbrev pub invariant-loop-index : goal.invariant-loop-index
 invariant-loop-index l = record {

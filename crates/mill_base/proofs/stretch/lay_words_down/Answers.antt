@@ -1,0 +1,9 @@
+use Rattle.std.proofs.Common.{◌-◌, ◌∙◌, ap, arith}
+use Rattle.mill_base.specs.Bits.{bit_of}
+use Rattle.mill_base.proofs.lemmas.Blocks.{word_laid}
+use Rattle.mill_base.proofs.stretch.lay_words_down.Goals as goal
+
+pub loop-done-preserved : goal.loop-done-preserved
+loop-done-preserved c =
+    word_laid c.args.out.now c.loop-done.out c.args.at c.loop-done.done c.word_down.result (λ i. bit_of c.args.from.now (c.args.start - i)) (omega arith) c.loop-done.invariant
+    (λ i h. c.word_down.ensures i h ∙ ap (bit_of c.args.from.now) (let down = c.requires.down in let t = c.loop-done-test.true in omega arith))
