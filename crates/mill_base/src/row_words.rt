@@ -48,8 +48,19 @@ pub fn put_word(words: &mut Vec<u64>, len: u32, at: u32, word: u64)
     ensures here { (k : ℕ) → k < len → k / 64 ≡ at → bit_of words.new.items k ≡ (bit_at word (k % 64) == 1) }
     ensures others { (k : ℕ) → k < len → k / 64 ≢ at → bit_of words.new.items k ≡ bit_of words.old.items k }
 {
-    words[at as usize] = word;
-    clear_past(words, len);
+    words[at as usize] = kept(word, len, at);
+}
+
+/// Word `at` of a row, without those of its bits that would stand past the first `len`.
+fn kept(word: u64, len: u32, at: u32) -> u64
+    requires { at < (len + 63) / 64 }
+    ensures below { (i : ℕ) → i < 64 → 64 * at + i < len → bit_at result i ≡ bit_at word i }
+    ensures past { (i : ℕ) → i < 64 → len ≤ 64 * at + i → bit_at result i ≡ 0 }
+{
+    if at < len / 64 {
+        return word;
+    }
+    low_bits(word, len % 64)
 }
 
 /// Whether two slices of one length have the same words.
