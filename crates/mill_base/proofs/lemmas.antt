@@ -17,6 +17,7 @@ pub mod Ranges
 pub mod RotatedRows
 pub mod RoundLines
 pub mod Rows
+pub mod Spreads
 pub mod Stretches
 pub mod Swaps
 pub mod TextWords
