@@ -12,7 +12,7 @@ use Rattle.cloth_floats.specs.Cells.{limit_of}
 use Rattle.cloth_floats.specs.Floats.{is_uniform, length_at}
 use Rattle.cloth_floats.specs.Windows.{is_long_over, is_long, long_of}
 use Rattle.mill_base.proofs.lemmas.Lines.{length-line_by, get_or-line_by, line_is}
-use Rattle.mill_base.proofs.lemmas.Belows.{true_together, any_alike, all_alike}
+use Rattle.mill_base.proofs.lemmas.Belows.{true_together, any_alike, all_alike, any_none, all_not, all_witness}
 use Rattle.cloth_floats.proofs.Doubling.{all_doubled, any_doubled}
 use Rattle.mill_base.proofs.lemmas.RoundLines.{same_cell, cell_here, past_is}
 use Rattle.cloth_floats.proofs.Sames.{chain_from, same-refl}
@@ -156,6 +156,28 @@ pub long_if_all : (line nexts long : List Bool) (limit : ℕ) (all : Bool) → 0
 long_if_all line nexts long limit all some far are test is =
     line_is false long (length line) (is_long_over line limit) (ap length is ∙ length-replicate (length line) all)
     (λ k h. ap (λ xs. get_or xs k false) is ∙ get_or-replicate (length line) k all false h ∙ all_nexts line nexts all some are test ∙ long_past_length line limit k h far)
+
+-- where a stretch of some length is nowhere ahead, no longer one is
+pub none_further : (cells found : List Bool) (width count : ℕ) → width ≤ count
+    → found ≡ line_by (length cells) (λ k. all_below (λ j. cell_round cells (k + j)) width)
+    → ((k : ℕ) → k < length found → get_or found k false ≡ false)
+    → found ≡ line_by (length cells) (λ k. all_below (λ j. cell_round cells (k + j)) count)
+none_further cells found width count less is none =
+    let n = length cells in
+    let f = λ (k : ℕ). all_below (λ j. cell_round cells (k + j)) width in
+    let long : length found ≡ n = ap length is ∙ length-line_by n f in
+    line_is false found n (λ k. all_below (λ j. cell_round cells (k + j)) count) long
+    (λ k h.
+    let short = sym (get_or-line_by n f k false h) ∙ sym (ap (λ xs. get_or xs k false) is) ∙ none k (omega arith) in
+    let w = all_witness (λ j. cell_round cells (k + j)) width short in
+    none k (omega arith) ∙ sym (all_not (λ j. cell_round cells (k + j)) count w.0 (let below = w.1 in omega arith) w.2))
+
+-- a line that is true nowhere has none behind either
+pub none_behind : (cells : List Bool) (count : ℕ) → ((k : ℕ) → k < length cells → get_or cells k false ≡ false)
+    → cells ≡ line_by (length cells) (λ k. any_below (λ i. cell_round cells (k + length cells - i)) count)
+none_behind cells count none = line_is false cells (length cells) (λ k. any_below (λ i. cell_round cells (k + length cells - i)) count) refl
+    (λ k h. none k h ∙ sym (any_none (λ i. cell_round cells (k + length cells - i)) count
+    (λ i _. none ((k + length cells - i) % length cells) (mod_below (k + length cells - i) (length cells) (omega arith)))))
 
 -- the answer by the limit of each cell
 pub long_chosen : (line lifted_long unlifted_long long : List Bool) (lifted unlifted : ℕ)

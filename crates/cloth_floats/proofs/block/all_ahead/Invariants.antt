@@ -8,7 +8,7 @@ abbrev pub invariant-loop-width : goal.invariant-loop-width
 invariant-loop-width l = record {
   some : 0 < l.width;
   within : l.width ≤ l.count;
-  found : l.found ≡ line_by (length l.fn.cells) (λ k. all_below (λ j. cell_round l.fn.cells (k + j)) l.width);
+  found : l.found ≡ line_by (length l.fn.found) (λ k. all_below (λ j. cell_round l.fn.found (k + j)) l.width);
 }
 
 abbrev pub decreases-loop-width : goal.decreases-loop-width

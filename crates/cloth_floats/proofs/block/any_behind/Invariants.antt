@@ -8,7 +8,7 @@ abbrev pub invariant-loop-width : goal.invariant-loop-width
 invariant-loop-width l = record {
   some : 0 < l.width;
   within : l.width ≤ l.count;
-  found : l.found ≡ line_by (length l.fn.cells) (λ k. any_below (λ i. cell_round l.fn.cells (k + length l.fn.cells - i)) l.width);
+  found : l.found ≡ line_by (length l.fn.found) (λ k. any_below (λ i. cell_round l.fn.found (k + length l.fn.found - i)) l.width);
 }
 
 abbrev pub decreases-loop-width : goal.decreases-loop-width
