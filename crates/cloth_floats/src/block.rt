@@ -1,13 +1,16 @@
 //! Long positions by whole words: windows of equal cells, and the positions that lie in one.
-ghost use Rattle.std.specs.Prelude.{◌≡◌, ℕ, ◌+◌, ◌-◌, ◌<◌, ◌≤◌, false, length, slice_index_or};
+ghost use Rattle.std.specs.Prelude.{◌≡◌, ℕ, ◌+◌, ◌-◌, ◌*◌, ◌/◌, ◌%◌, ◌<◌, ◌≤◌, ◌==◌, false, true, length, slice_index_or};
+ghost use Rattle.std.specs.Int.{bit_at};
+ghost use Rattle.mill_base.specs.Bits.{bit_of};
 ghost use Rattle.mill_base.specs.Below.{any_below, all_below};
 ghost use Rattle.mill_base.specs.Lines.{line_by};
 ghost use Rattle.mill_base.specs.Lines.{cell_round};
 ghost use Rattle.mill_base.specs.declared.limits.TheConstants.{MAX_ENDS};
-ghost use Rattle.cloth_floats.specs.Windows.{is_long_over, long_of};
+ghost use Rattle.cloth_floats.specs.Windows.{is_long, is_long_over, long_of};
 
 use mill_base::bit_block::{BitBlock, Spare};
 use mill_base::bit_row::BitRow;
+use mill_base::word::{eights, same_as_next, window};
 
 /// Makes a line true only where `count` of its cells are true, from the position itself on. The stretch that is looked at doubles
 /// in each step, until there is none. The answer is false only where no position is left.
@@ -74,6 +77,52 @@ fn store_long(long: &BitBlock, some: bool, out: &mut BitRow)
     out.fill(false);
 }
 
+/// In which bytes of some word but the last all cells equal their next: the lowest bit of such a byte is set.
+fn even_bytes(words: &[u64]) -> u64
+    requires { 0 < length words.now }
+    ensures { (q b : ℕ) → q + 1 < length words.now → b < 8 → ((j : ℕ) → j < 8 → bit_of words.now (64 * q + 8 * b + j) ≡ bit_of words.now (64 * q + 8 * b + j + 1)) → bit_at result (8 * b) ≡ 1 }
+{
+    let inner = words.len() - 1;
+    let low = &words[..inner];
+    let high = &words[1..];
+    let mut found = 0;
+    for index in 0..inner {
+        found |= eights(same_as_next(low[index], high[index]));
+    }
+    found
+}
+
+/// The same of the last word of so many cells, where the last cell and what is past it in its byte are taken to equal their next.
+fn last_even_bytes(word: u64, len: u32) -> u64
+    requires { 0 < len }
+    ensures { (b : ℕ) → 8 * b ≤ (len - 1) % 64 → ((j : ℕ) → j < 8 → 8 * b + j < (len - 1) % 64 → (bit_at word (8 * b + j) == 1) ≡ (bit_at word (8 * b + j + 1) == 1)) → bit_at result (8 * b) ≡ 1 }
+{
+    let last = (len - 1) % 64;
+    eights(same_as_next(word, 0) | window(last, 64 - last)) & window(0, last + 1)
+}
+
+/// Whether some byte may hold only cells that equal their next.
+fn has_even_byte(words: &[u64], len: u32) -> bool
+    requires words { length words.now ≡ (len + 63) / 64 }
+    requires len { 0 < len }
+    ensures { (m : ℕ) → 8 * m < len → ((j : ℕ) → j < 8 → 8 * m + j + 1 < len → bit_of words.now (8 * m + j) ≡ bit_of words.now (8 * m + j + 1)) → result ≡ true }
+{
+    let found = even_bytes(words) | last_even_bytes(words[words.len() - 1], len);
+    found & 0x0101_0101_0101_0101 != 0
+}
+
+/// Whether one pass over the words tells that a line is long nowhere. Over a limit of 15 or more there are 16 equal cells in a row,
+/// and so a byte of cells that equal their next. Most lines have none.
+fn is_plain(line: &BitRow, lifted: u32, unlifted: u32) -> bool
+    requires { 0 < length line.now }
+    ensures { result ≡ true → (k : ℕ) → k < length line.now → is_long line.now lifted unlifted k ≡ false }
+{
+    if lifted.min(unlifted) < 15 {
+        return false;
+    }
+    !has_even_byte(line.words(), line.len())
+}
+
 /// `long_cells` of a line that a block holds.
 pub fn long_cells(line: &BitRow, lifted: u32, unlifted: u32, out: &mut BitRow)
     requires line { 0 < length line.now }
@@ -82,6 +131,10 @@ pub fn long_cells(line: &BitRow, lifted: u32, unlifted: u32, out: &mut BitRow)
     requires limits { (0 < lifted) × (0 < unlifted) }
     ensures { out.new ≡ long_of line.now lifted unlifted }
 {
+    if is_plain(line, lifted, unlifted) {
+        out.fill(false);
+        return;
+    }
     let mut spare = Spare::new();
     let mut long = BitBlock::of(line);
     let some = mark_long(&mut long, unlifted, &mut spare);

@@ -1,8 +1,9 @@
-use Rattle.std.proofs.Common.{length, get_or, false, cond, ap, ◌∙◌, sym}
+use Rattle.std.proofs.Common.{length, get_or, replicate, false, cond, ap, ◌∙◌, sym}
 use Rattle.mill_base.specs.Lines.{line_by}
 use Rattle.cloth_floats.specs.Windows.{is_long_over}
 use Rattle.mill_base.proofs.lemmas.Lines.{length-line_by}
 use Rattle.cloth_floats.proofs.Blocks.{long_chosen, long_alike}
+use Rattle.cloth_floats.proofs.Evens.{all_false}
 use Rattle.cloth_floats.proofs.block.long_cells.Goals as goal
 
 pub store_long-requires-clause-out : goal.store_long-requires-clause-out
@@ -30,3 +31,6 @@ returns c =
     (c.mark_long.ensures.line ∙ ap (λ l. line_by (length l) (is_long_over l c.args.lifted)) c.of-lifted_long.ensures)
     (c.mark_long-some.ensures.line ∙ ap (λ l. line_by (length l) (is_long_over l c.args.unlifted)) c.of-long.ensures)
     (c.select.ensures ∙ ap (λ l. line_by (length l) (λ k. cond (get_or l k false) (get_or c.mark_long.new.line k false) (get_or c.mark_long-some.new.line k false))) c.of.ensures)
+
+pub returns-then-is_plain : goal.returns-then-is_plain
+returns-then-is_plain c = c.fill.ensures ∙ ap (λ n. replicate n false) c.requires.out ∙ all_false c.args.line.now c.args.lifted c.args.unlifted (c.is_plain.ensures c.if-is_plain.true)
