@@ -25,8 +25,12 @@ pub fn bind_line(raw: &BitRow, long: &BitRow, raise: &BitRow, sink: &BitRow, out
         → slice_index_or out.new k false ≡ bound_at raw.now long.now raise.now sink.now k }
 {
     let words = raw.len().div_ceil(64);
+    let raw_words = raw.words();
+    let long_words = long.words();
+    let raise_words = raise.words();
+    let sink_words = sink.words();
     for at in 0..words {
-        let word = word_of_line(raw.words(), long.words(), raise.words(), sink.words(), at);
+        let word = word_of_line(raw_words, long_words, raise_words, sink_words, at);
         out.put_word(at, word);
     }
 }

@@ -11,9 +11,9 @@ loop-at-preserved c = record {
   bound = λ k below within. ⊎_elim
       (λ (here : k / 64 ≡ c.loop-at.at).
       c.put_word.ensures.here k (subst (λ (n : ℕ). k < n) (sym c.loop-at.invariant.long) within) here ∙ c.word_of_line-word.ensures k here
-      ∙ cell_of_words c.words.result.now c.words-in-loop-at.result.now c.words-in-loop-at-2.result.now c.words-in-loop-at-3.result.now
+      ∙ cell_of_words c.words-raw_words.result.now c.words-long_words.result.now c.words-raise_words.result.now c.words-sink_words.result.now
       c.args.raw.now c.args.long.now c.args.raise.now c.args.sink.now
-      c.words.ensures c.words-in-loop-at.ensures c.words-in-loop-at-2.ensures c.words-in-loop-at-3.ensures k)
+      c.words-raw_words.ensures c.words-long_words.ensures c.words-raise_words.ensures c.words-sink_words.ensures k)
       (λ (away : k / 64 ≢ c.loop-at.at). c.put_word.ensures.others k away ∙ c.loop-at.invariant.bound k (omega arith) within)
       (cases_eq (k / 64) c.loop-at.at);
 }
