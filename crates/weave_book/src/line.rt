@@ -1,5 +1,5 @@
 //! Whole lines of marks, 64 columns to a word.
-ghost use Rattle.std.specs.Prelude.{◌≡◌, ◌≢◌, ℕ, ◌+◌, ◌*◌, ◌%◌, ◌^◌, ◌<◌, ◌≤◌, ◌==◌, Bool, length};
+ghost use Rattle.std.specs.Prelude.{◌≡◌, ◌≢◌, ℕ, ◌+◌, ◌-◌, ◌*◌, ◌%◌, ◌^◌, ◌<◌, ◌≤◌, ◌==◌, Bool, length};
 ghost use Rattle.std.specs.Int.{bit_at};
 ghost use Rattle.mill_base.specs.Lines.{line_by};
 ghost use Rattle.weave_book.specs.Weaves.{mark};
@@ -15,23 +15,30 @@ impl Weave {
         ensures len { length out.new ≡ length out.old }
         ensures marks { out.new ≡ line_by (length out.old) (λ c. mark self.now c pick) }
     {
-        let first = self.marks_from(pick, 0);
+        let repeat = self.repeat();
+        let mut word = self.marks_from(pick, 0);
         for at in 0..out.len().div_ceil(64) {
-            out.put_word(at, self.later_marks(pick, first, 64 * at));
+            word = self.next_marks(pick, repeat, word, at);
+            out.put_word(at, word);
         }
     }
 
-    /// The marks at 64 columns from column `from` on, where `first` has those from column 0 on.
-    fn later_marks(&self, pick: u32, first: u64, from: u32) -> u64
-        requires room { from + 64 ≤ 2 ^ 32 }
-        requires first { AreCells (λ c. mark self.now c pick) 0 64 first }
-        ensures { AreCells (λ c. mark self.now c pick) from 64 result }
+    /// The marks at the 64 columns of word `at`, where `before` has those of the word before it, or for the first word its own.
+    /// Each word is made from the one before it, since the way between them is the same for all, and is divided only once.
+    fn next_marks(&self, pick: u32, repeat: u32, before: u64, at: u32) -> u64
+        requires few { repeat ≤ 64 }
+        requires again { Repeats (λ c. mark self.now c pick) repeat }
+        requires room { 64 * at + 64 ≤ 2 ^ 32 }
+        requires before { AreCells (λ c. mark self.now c pick) (64 * (at - 1)) 64 before }
+        ensures { AreCells (λ c. mark self.now c pick) (64 * at) 64 result }
     {
-        let repeat = self.repeat();
-        if repeat == 0 {
-            return self.marks_from(pick, from);
+        if at == 0 {
+            return before;
         }
-        turned(first, repeat, from)
+        if repeat == 0 {
+            return self.marks_from(pick, 64 * at);
+        }
+        turned(before, repeat, 64)
     }
 
     /// The marks at 64 columns from column `from` on.
