@@ -1,8 +1,9 @@
 -- The first float of the cloth, line by line, and whether it keeps one.
-use Rattle.std.proofs.Common.{◌≡◌, ◌<◌, ◌||◌, ◌↔◌, ℕ, pos, List, Bool, true, false, length, get_or, slice_index, Option, Some, None, is_some, filter_map, slice_get, [], ◌∷◌, ◌++◌, refl, ap, sym, subst, ◌∙◌}
+use Rattle.std.proofs.Common.{◌≡◌, ◌≢◌, ⊎_elim, arith, ◌+◌, ◌<◌, ◌↔◌, ℕ, pos, List, Bool, false, length, slice_index, Option, Some, None, is_some, filter_map, slice_get, [], ◌∷◌, ◌++◌, refl, ap, sym, subst, ◌∙◌}
 use Rattle.std.specs.Option.{IsNone}
 use Rattle.std.specs.List.{range_with_len}
-use Rattle.std.proofs.lemmas.Bool.{or_from, or_parts, true_from_ne_false}
+use Rattle.std.specs.Prelude.{All}
+use Rattle.std.proofs.lemmas.Bool.{cases_eq, or_from, or_parts, true_from_ne_false}
 use Rattle.mill_base.specs.Below.{any_below}
 use Rattle.mill_base.specs.Lines.{line_by}
 use Rattle.mill_base.proofs.lemmas.Belows.{any_none, any_not}
@@ -33,6 +34,25 @@ pub warp_told : (design : Design) (bits : BitCells) (end column : ℕ) (run : Op
 unfolding warp_float
 warp_told design bits end column run told is found was =
     sym (was ∙ ap (float_of Warp end) (found ∙ ap (λ k. first_long_of (line_by (length bits.rows) (λ p. bit_cell bits k p)) design.warp_face design.warp_back) is))
+
+-- a pick without a float over its limit, and the ends of columns without one
+pub weft_none : (design : Design) (bits : BitCells) (pick : ℕ) (row line : List Bool) → row ≡ bit_row bits pick → line ≡ tied design.tie.ends row
+    → first_long_of line design.weft_back design.weft_face ≡ None → weft_float design bits pick ≡ None
+weft_none design bits pick row line is laid none =
+    weft_told design bits pick row None None is (sym none ∙ ap (λ xs. first_long_of xs design.weft_back design.weft_face) laid) refl
+
+pub warp_none : (design : Design) (bits : BitCells)
+    → ((column : ℕ) → column < bits.columns → first_long_of (line_by (length bits.rows) (λ p. bit_cell bits column p)) design.warp_face design.warp_back ≡ None)
+    → All (λ column. column < bits.columns) design.tie.ends
+    → slice_get (filter_map (warp_float design bits) (range_with_len 0 (length design.tie.ends))) 0 ≡ None
+warp_none design bits none tied =
+    ap (λ xs. slice_get xs 0)
+    (none_all (warp_float design bits) (length design.tie.ends)
+    (λ e h. warp_told design bits e (slice_index design.tie.ends e) None None refl (sym (none (slice_index design.tie.ends e) (tied e 0 h))) refl))
+
+-- no answer below a number, and none at it
+pub none_to : {A : Type 0} (h : ℕ → Option A) (n : ℕ) → ((k : ℕ) → k < n → h k ≡ None) → h n ≡ None → (k : ℕ) → k < n + 1 → h k ≡ None
+none_to h n before here k below = ⊎_elim (λ (is : k ≡ n). ap h is ∙ here) (λ (other : k ≢ n). before k (omega (arith, other, below))) (cases_eq k n)
 
 -- where the first list has no item, the first of both is the first of the second
 pub no_left : {A : Type 0} (xs ys : List A) → slice_get xs 0 ≡ None → slice_get (xs ++ ys) 0 ≡ slice_get ys 0

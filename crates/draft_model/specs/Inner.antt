@@ -12,6 +12,10 @@ use Rattle.draft_model.specs.declared.design.Design.{Design}
 abbrev pub bits_of : GridCells → BitCells
 bits_of grid = record { columns = grid.width; rows = grid.rows }
 
+-- a paper of truth values as a grid
+abbrev pub grid_cells : BitCells → GridCells
+grid_cells bits = record { width = bits.columns; rows = bits.rows }
+
 -- the grid has the design's columns and picks
 pub record IsGridOf (design : Design) (grid : GridCells) : Type 0 where
   pub columns : grid.width ≡ design.size.columns

@@ -6,7 +6,7 @@ ghost use Rattle.draft_model.specs.Designs.{Fits};
 use crate::cloth::Cloth;
 use crate::design::Design;
 use crate::drawdown::{bound, drawdown};
-use crate::first_float::first_float;
+use crate::first_float::{find_float, first_float};
 use crate::float_run::{FloatKind, FloatRun};
 use casting_out::casting::Casting;
 use harness_ties::section::{Section, SectionKind};
@@ -120,6 +120,8 @@ fn expect_case(rt: &impl Abort, alloc: Global, case: &Case) -> Result<(), Fail> 
     let cloth = drawdown(alloc, &design.copy()?, &paper)?;
     expect_rows(rt, alloc, &cloth, case.rows, case.name)?;
     assert_eq!(rt; first_float(&design, &bits), case.first, "{}", case.name);
+    let found = find_float(alloc, &design, &bits)?;
+    assert_eq!(rt; found, case.first, "{}, by whole lines", case.name);
     Ok(())
 }
 
@@ -358,6 +360,7 @@ fn the_greatest_paper_is_bound(rt: HostRuntime) -> Result<(), Fail> {
     let paper = blank_paper(alloc, design.size)?;
     let bits = bound(alloc, &design, &paper)?;
     assert_eq!(rt; first_float(&design, &bits), case.first);
+    assert_eq!(rt; find_float(alloc, &design, &bits)?, case.first);
     let cloth = drawdown(alloc, &design, &paper)?;
     assert!(rt; cloth.picks() == MAX_PICKS);
     assert_eq!(rt; cloth.row(0).count(), MAX_COLUMNS / 2);
