@@ -16,7 +16,7 @@ use crate::shift::{ShiftEnd, know_core, run_shift};
 use crate::unread;
 use card_image::card_set::CardSet;
 use draft_model::drawdown::bound;
-use draft_model::first_float::first_float;
+use draft_model::first_float::find_float;
 use loom_threads::loom::Loom;
 use mill_base::listed::Listed;
 use mill_base::memory::OutOfMemory;
@@ -213,7 +213,7 @@ pub fn check_opening(alloc: Global, session: &Session) -> Result<(), StartRefusa
     ensures refusal { IfErr result (IsStartRefusal session.now.design session.now.opening) }
 {
     let bits = bound(alloc, &session.design, &session.opening)?;
-    let float = first_float(&session.design, &bits);
+    let float = find_float(alloc, &session.design, &bits)?;
     match float {
         None => Ok(()),
         Some(float) => Err(StartRefusal::OpeningFloat(float)),
