@@ -1,11 +1,11 @@
 -- Grids of long cells, row by row.
-use Rattle.std.proofs.Common.{◌≡◌, ◌+◌, ◌<◌, ◌==◌, ◌&&◌, ◌||◌, ℕ, Bool, false, List, [], length, map, get_or, slice_index, sym, ap, subst, ◌∙◌, arith}
+use Rattle.std.proofs.Common.{◌≡◌, ◌+◌, ◌<◌, ◌==◌, ◌&&◌, ◌||◌, ℕ, Bool, false, List, [], length, map, replicate, get_or, slice_index, sym, ap, subst, ◌∙◌, arith}
 use Rattle.std.proofs.lemmas.List.{length-map, get_or-map, ext_get_or}
 use Rattle.mill_base.specs.Below.{any_below}
 use Rattle.mill_base.specs.Grids.{GridCells, grid_cell, grid_row, transposed}
 use Rattle.mill_base.specs.Lines.{line_by}
 use Rattle.mill_base.proofs.lemmas.Belows.{any_alike}
-use Rattle.mill_base.proofs.lemmas.Lines.{length-line_by, get_or-line_by, line_is, line_by_alike}
+use Rattle.mill_base.proofs.lemmas.Lines.{length-line_by, get_or-line_by, line_is, line_by_alike, line_of_one}
 use Rattle.harness_ties.specs.Ties.{tied, gathered}
 use Rattle.cloth_floats.specs.Windows.{is_long, long_of}
 use Rattle.point_paper.specs.Papers.{bit_cell}
@@ -30,6 +30,21 @@ length-long_of line lifted unlifted = length-line_by (length line) (is_long line
 pub get_or-long_of : (line : List Bool) (lifted unlifted k : ℕ) → k < length line → get_or (long_of line lifted unlifted) k false ≡ is_long line lifted unlifted k
 get_or-long_of line lifted unlifted k h = get_or-line_by (length line) (is_long line lifted unlifted) k false h
 
+-- rows that were marked where they are long
+abbrev pub marked_grid : (ℕ → ℕ → Bool) → ℕ → ℕ → ℕ → ℕ → GridCells
+marked_grid cell columns picks lifted unlifted = record { width = picks; rows = map (λ row. long_of row lifted unlifted) (line_by columns (λ column. line_by picks (cell column))) }
+
+marked_cell : (cell : ℕ → ℕ → Bool) (columns picks lifted unlifted column pick : ℕ) → column < columns → pick < picks
+    → grid_cell (marked_grid cell columns picks lifted unlifted) pick column ≡ is_long (line_by picks (λ y. cell column y)) lifted unlifted pick
+marked_cell cell columns picks lifted unlifted column pick c p =
+    ap (λ row. get_or row pick false)
+    (get_or-map (λ row. long_of row lifted unlifted) rows column [] [] (subst (λ n. column < n) (sym (length-line_by columns (λ k. line_by picks (cell k)))) c)
+    ∙ ap (λ row. long_of row lifted unlifted) (get_or-line_by columns (λ k. line_by picks (cell k)) column [] c))
+    ∙ get_or-long_of (line_by picks (cell column)) lifted unlifted pick (subst (λ n. pick < n) (sym (length-line_by picks (cell column))) p)
+  where
+    rows : List (List Bool)
+    rows = line_by columns (λ column. line_by picks (cell column))
+
 -- a grid turned, its rows marked where they are long, and turned back
 pub turned_back : (cell : ℕ → ℕ → Bool) (columns picks lifted unlifted : ℕ)
     → transposed (record { width = picks; rows = map (λ row. long_of row lifted unlifted) (line_by columns (λ column. line_by picks (cell column))) })
@@ -40,20 +55,27 @@ turned_back cell columns picks lifted unlifted =
     ∙ line_by_alike [] picks (λ pick. line_by columns (λ column. grid_cell grid pick column))
     (λ pick. line_by columns (λ column. is_long (line_by picks (λ y. cell column y)) lifted unlifted pick))
     (λ pick p. line_by_alike false columns (λ column. grid_cell grid pick column) (λ column. is_long (line_by picks (λ y. cell column y)) lifted unlifted pick)
-    (λ column c.
-    ap (λ row. get_or row pick false)
-    (get_or-map (λ row. long_of row lifted unlifted) rows column [] [] (subst (λ n. column < n) (sym (length-line_by columns (λ k. line_by picks (cell k)))) c)
-    ∙ ap (λ row. long_of row lifted unlifted) (get_or-line_by columns (λ k. line_by picks (cell k)) column [] c))
-    ∙ get_or-long_of (line_by picks (cell column)) lifted unlifted pick (subst (λ n. pick < n) (sym (length-line_by picks (cell column))) p))))
+    (λ column c. marked_cell cell columns picks lifted unlifted column pick c p)))
   where
-    rows : List (List Bool)
-    rows = line_by columns (λ column. line_by picks (cell column))
-
     grid : GridCells
-    grid = record { width = picks; rows = map (λ row. long_of row lifted unlifted) rows }
+    grid = marked_grid cell columns picks lifted unlifted
 
-    high : length (map (λ row. long_of row lifted unlifted) rows) ≡ columns
-    high = length-map rows (λ row. long_of row lifted unlifted) ∙ length-line_by columns (λ column. line_by picks (cell column))
+    high : length (map (λ row. long_of row lifted unlifted) (line_by columns (λ column. line_by picks (cell column)))) ≡ columns
+    high = length-map (line_by columns (λ column. line_by picks (cell column))) (λ row. long_of row lifted unlifted) ∙ length-line_by columns (λ column. line_by picks (cell column))
+
+-- where no row is long anywhere, a grid that is false everywhere is the one that would be turned back
+pub none_is_long : (cell : ℕ → ℕ → Bool) (columns picks lifted unlifted : ℕ) (marked : GridCells)
+    → marked ≡ record { width = picks; rows = map (λ row. long_of row lifted unlifted) (line_by columns (λ column. line_by picks (cell column))) }
+    → ((column pick : ℕ) → column < columns → grid_cell marked pick column ≡ false)
+    → ◌≡◌ {A = GridCells} (record { width = columns; rows = replicate picks (replicate columns false) })
+    (record { width = columns; rows = rows_by columns picks (λ column pick. is_long (line_by picks (λ y. cell column y)) lifted unlifted pick) })
+none_is_long cell columns picks lifted unlifted marked is none =
+    ap (λ (rows : List (List Bool)). record { width = columns; rows = rows })
+    (line_of_one picks (replicate columns false)
+    ∙ line_by_alike [] picks (λ pick. replicate columns false) (λ pick. line_by columns (λ column. is_long (line_by picks (λ y. cell column y)) lifted unlifted pick))
+    (λ pick p. line_of_one columns false
+    ∙ line_by_alike false columns (λ column. false) (λ column. is_long (line_by picks (λ y. cell column y)) lifted unlifted pick)
+    (λ column c. sym (none column pick c) ∙ ap (λ (g : GridCells). grid_cell g pick column) is ∙ marked_cell cell columns picks lifted unlifted column pick c p)))
 
 -- the long columns of a pick, from its row on the cloth and from the ends
 pub pick_is_long : (design : Design) (raw : GridCells) (columns pick : ℕ) (new : List Bool) → length new ≡ columns

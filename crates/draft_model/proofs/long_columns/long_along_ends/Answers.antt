@@ -1,4 +1,4 @@
-use Rattle.std.proofs.Common.{◌≡◌, ◌<◌, ℕ, List, Bool, length, map, ap, sym, ◌∙◌}
+use Rattle.std.proofs.Common.{◌≡◌, ◌<◌, ℕ, List, Bool, length, map, ap, sym, subst, ◌∙◌}
 use Rattle.std.proofs.lemmas.List.{length-map}
 use Rattle.mill_base.specs.Grids.{GridCells, grid_cell, transposed}
 use Rattle.mill_base.specs.Lines.{line_by}
@@ -7,7 +7,7 @@ use Rattle.cloth_floats.specs.Windows.{long_of, is_long}
 use Rattle.draft_model.specs.Cloths.{rows_by}
 use Rattle.draft_model.specs.Inner.{end_long, IsGridOf}
 use Rattle.draft_model.specs.declared.design.Design.{Design}
-use Rattle.draft_model.proofs.LongGrids.{turned_back}
+use Rattle.draft_model.proofs.LongGrids.{none_is_long, turned_back}
 use Rattle.draft_model.proofs.long_columns.long_along_ends.Goals as goal
 
 -- the grid that was marked, by the raw one
@@ -27,8 +27,18 @@ transpose_into-requires-2-clause-width c =
     let rows = line_by columns (λ column. line_by picks (grid_cell raw column)) in
     ap (λ (g : GridCells). g.width) c.in_ok-long.ensures
     ∙ sym (ap (λ (g : GridCells). length g.rows)
-    (marked raw c.transpose_into.new.out c.mark_long_rows.new.grid columns picks c.args.design.now.warp_face c.args.design.now.warp_back c.requires.raw.columns c.requires.raw.picks c.transpose_into.ensures.columns c.mark_long_rows.ensures)
+    (marked raw c.transpose_into.new.out c.mark_long_rows.new.grid columns picks c.args.design.now.warp_face c.args.design.now.warp_back c.requires.raw.columns c.requires.raw.picks c.transpose_into.ensures.columns c.mark_long_rows.ensures.rows)
     ∙ length-map rows (λ row. long_of row c.args.design.now.warp_face c.args.design.now.warp_back) ∙ length-line_by columns (λ column. line_by picks (grid_cell raw column)))
+
+pub returns-then-not-mark_long_rows : goal.returns-then-not-mark_long_rows
+returns-then-not-mark_long_rows c =
+    let raw = c.args.raw.now in
+    let columns = c.args.design.now.size.columns in
+    let picks = c.args.design.now.size.picks in
+    c.in_ok-long.ensures
+    ∙ none_is_long (grid_cell raw) columns picks c.args.design.now.warp_face c.args.design.now.warp_back c.mark_long_rows.new.grid
+    (marked raw c.transpose_into.new.out c.mark_long_rows.new.grid columns picks c.args.design.now.warp_face c.args.design.now.warp_back c.requires.raw.columns c.requires.raw.picks c.transpose_into.ensures.columns c.mark_long_rows.ensures.rows)
+    (λ column pick h. c.mark_long_rows.ensures.none c.if-not-mark_long_rows.true column pick (subst (λ n. column < n) (sym (c.transpose_into.ensures.height ∙ c.requires.raw.columns)) h))
 
 pub returns : goal.returns
 returns c =
@@ -36,5 +46,5 @@ returns c =
     let columns = c.args.design.now.size.columns in
     let picks = c.args.design.now.size.picks in
     c.transpose_into-2.ensures.columns
-    ∙ ap transposed (marked raw c.transpose_into.new.out c.mark_long_rows.new.grid columns picks c.args.design.now.warp_face c.args.design.now.warp_back c.requires.raw.columns c.requires.raw.picks c.transpose_into.ensures.columns c.mark_long_rows.ensures)
+    ∙ ap transposed (marked raw c.transpose_into.new.out c.mark_long_rows.new.grid columns picks c.args.design.now.warp_face c.args.design.now.warp_back c.requires.raw.columns c.requires.raw.picks c.transpose_into.ensures.columns c.mark_long_rows.ensures.rows)
     ∙ turned_back (grid_cell raw) columns picks c.args.design.now.warp_face c.args.design.now.warp_back

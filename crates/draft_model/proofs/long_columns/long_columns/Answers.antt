@@ -1,4 +1,5 @@
-use Rattle.std.proofs.Common.{◌≡◌, ◌≢◌, ◌+◌, ◌<◌, ◌≤◌, ◌||◌, ℕ, List, [], Bool, false, length, get_or, set, ap, sym, subst, ◌∙◌, arith, length-set, get_or-set_other}
+use Rattle.std.proofs.Common.{◌≡◌, ◌≢◌, ⊎_elim, ◌+◌, ◌<◌, ◌≤◌, ◌||◌, ℕ, List, [], Bool, false, length, get_or, set, ap, sym, subst, ◌∙◌, arith, length-set, get_or-set_other}
+use Rattle.std.proofs.lemmas.Bool.{cases_eq}
 use Rattle.mill_base.specs.Grids.{GridCells}
 use Rattle.mill_base.specs.Lines.{line_by}
 use Rattle.mill_base.proofs.lemmas.Lines.{length-line_by, get_or-line_by, line_is, one_more}
@@ -31,34 +32,30 @@ pub loop-pick-preserved : goal.loop-pick-preserved
 loop-pick-preserved c =
     let design = c.args.design.now in
     let raw = c.args.raw.now in
+    let columns = design.size.columns in
     let pick = c.loop-pick.pick in
     let low : pick < design.size.picks = c.loop-pick-test.true in
-    let there : pick < length c.loop-pick.long.rows = omega (arith, c.loop-pick.invariant.height, low) in
-    let wide : length c.or_range.new.self ≡ design.size.columns = c.or_range.ensures.len ∙ c.gather.ensures.len ∙ c.requires.fits.tie in
+    let before = c.loop-pick.invariant.left pick (omega arith) low in
     record {
-      width = ap (λ (g : GridCells). g.width) c.set_row.ensures ∙ c.loop-pick.invariant.width;
-      height = ap (λ (g : GridCells). length g.rows) c.set_row.ensures ∙ length-set c.loop-pick.long.rows pick c.or_range.new.self ∙ c.loop-pick.invariant.height;
+      width = c.join_row.ensures.width ∙ c.loop-pick.invariant.width;
+      height = c.join_row.ensures.height ∙ c.loop-pick.invariant.height;
       ends = c.lay.ensures.len;
       ends_long = c.long_cells.ensures.len ∙ c.loop-pick.invariant.ends_long;
-      columns = wide;
-      done = λ k below. ap (λ (g : GridCells). get_or g.rows k []) c.set_row.ensures
-          ∙ one_more [] c.loop-pick.long.rows pick c.or_range.new.self (λ p. line_by design.size.columns (λ column. column_long design (bits_of raw) column p)) there
-          (pick_is_long design raw design.size.columns pick c.or_range.new.self wide
+      columns = c.join_row.ensures.columns ∙ c.requires.fits.tie;
+      done = λ k below. ⊎_elim
+          (λ (is : k ≡ pick). subst (λ p. get_or c.join_row.new.long.rows p [] ≡ line_by columns (λ column. column_long design (bits_of raw) column p)) (sym is)
+          (pick_is_long design raw columns pick (get_or c.join_row.new.long.rows pick [])
+          (c.join_row.ensures.wide ∙ ap length before ∙ length-line_by columns (λ column. end_long design raw column pick))
           (λ i h.
-          let place : 0 + i ≡ i = omega arith in
-          ap (λ n. get_or c.or_range.new.self n false) (sym place)
-          ∙ c.or_range.ensures.here i h
-          ∙ ap (λ n. get_or c.gather.new.columns n false || get_or c.row-in-loop-pick.result.now n false) place
-          ∙ ap (λ xs. get_or xs i false || get_or c.row-in-loop-pick.result.now i false) (c.gather.ensures.row
-          ∙ ap (λ n. gathered n design.tie.ends c.long_cells.new.out) c.requires.fits.tie
-          ∙ ap (gathered design.size.columns design.tie.ends)
-          (c.long_cells.ensures.all ∙ ap (λ xs. long_of xs design.weft_back design.weft_face) (c.lay.ensures.line ∙ ap (tied design.tie.ends) c.row.ensures.row)))
-          ∙ ap (λ xs. get_or (gathered design.size.columns design.tie.ends (long_of (tied design.tie.ends (grid_row raw pick)) design.weft_back design.weft_face)) i false || get_or xs i false)
-          (c.row-in-loop-pick.ensures.row ∙ c.loop-pick.invariant.left pick (omega arith) low))
-          (λ column h. c.two_lines_decide_a_cell.ensures.long design (bits_of raw) column pick c.ends.ensures.tie (subst (λ n. column < n) (sym c.requires.fits.tie) h) c.requires.raw.picks low))
-          c.loop-pick.invariant.done k below;
-      left = λ k from below. ap (λ (g : GridCells). get_or g.rows k []) c.set_row.ensures
-          ∙ get_or-set_other c.loop-pick.long.rows pick k c.or_range.new.self [] (omega arith) ∙ c.loop-pick.invariant.left k (omega arith) below;
+          c.join_row.ensures.here i (subst (λ n. i < n) (sym c.requires.fits.tie) h)
+          ∙ ap (λ n. get_or (gathered n design.tie.ends c.long_cells.new.out) i false || get_or (get_or c.loop-pick.long.rows pick []) i false) c.requires.fits.tie
+          ∙ ap (λ xs. get_or (gathered columns design.tie.ends xs) i false || get_or (get_or c.loop-pick.long.rows pick []) i false)
+          (c.long_cells.ensures.all ∙ ap (λ xs. long_of xs design.weft_back design.weft_face) (c.lay.ensures.line ∙ ap (tied design.tie.ends) c.row.ensures.row))
+          ∙ ap (λ xs. get_or (gathered columns design.tie.ends (long_of (tied design.tie.ends (grid_row raw pick)) design.weft_back design.weft_face)) i false || get_or xs i false) before)
+          (λ column h. c.two_lines_decide_a_cell.ensures.long design (bits_of raw) column pick c.ends.ensures.tie (subst (λ n. column < n) (sym c.requires.fits.tie) h) c.requires.raw.picks low)))
+          (λ (other : k ≢ pick). c.join_row.ensures.others k other ∙ c.loop-pick.invariant.done k (omega (arith, other, below)))
+          (cases_eq k pick);
+      left = λ k from below. c.join_row.ensures.others k (omega (arith, from)) ∙ c.loop-pick.invariant.left k (omega (arith, from)) below;
     }
 
 pub returns : goal.returns
