@@ -1,5 +1,5 @@
 -- Grids of long cells, row by row.
-use Rattle.std.proofs.Common.{◌≡◌, ◌+◌, ◌<◌, ◌==◌, ◌&&◌, ◌||◌, ℕ, Bool, false, List, [], length, map, replicate, get_or, slice_index, sym, ap, subst, ◌∙◌, arith}
+use Rattle.std.proofs.Common.{◌≡◌, ◌<◌, ◌==◌, ◌&&◌, ◌||◌, ℕ, Bool, false, List, [], length, map, replicate, get_or, slice_index, sym, ap, subst, ◌∙◌}
 use Rattle.std.proofs.lemmas.List.{length-map, get_or-map, ext_get_or}
 use Rattle.mill_base.specs.Below.{any_below}
 use Rattle.mill_base.specs.Grids.{GridCells, grid_cell, grid_row, transposed}

@@ -103,10 +103,37 @@ fn bind_rows(
     let mut sink = BitRow::new(alloc, design.size.columns)?;
     let mut row = BitRow::new(alloc, design.size.columns)?;
     for pick in 0..design.size.picks {
-        design.raise.put_row(pick, &mut raise);
-        design.sink.put_row(pick, &mut sink);
-        bind_line(raw.row(pick), long.row(pick), &raise, &sink, &mut row);
+        bind_row(design, raw, long, pick, &mut raise, &mut sink, &mut row);
         bits.set_row(pick, &row);
     }
     Ok(bits)
+}
+
+// The bound row of a pick. The marks of the binders are put down only where some column is long; `raise` and `sink` have room for them.
+fn bind_row(
+    design: &Design,
+    raw: &BitGrid,
+    long: &BitGrid,
+    pick: u32,
+    raise: &mut BitRow,
+    sink: &mut BitRow,
+    row: &mut BitRow,
+)
+    requires raw { IsGridOf design.now raw.now }
+    requires long { long.now ≡ record { width = design.now.size.columns; rows = rows_by design.now.size.columns design.now.size.picks (column_long design.now (bits_of raw.now)) } }
+    requires pick { pick < design.now.size.picks }
+    requires raise { length raise.old ≡ design.now.size.columns }
+    requires sink { length sink.old ≡ design.now.size.columns }
+    requires row { length row.old ≡ design.now.size.columns }
+    ensures raise { length raise.new ≡ design.now.size.columns }
+    ensures sink { length sink.new ≡ design.now.size.columns }
+    ensures row { row.new ≡ line_by design.now.size.columns (λ column. cell_bound design.now (bits_of raw.now) column pick) }
+{
+    if !long.row(pick).any() {
+        row.copy_from(raw.row(pick));
+        return;
+    }
+    design.raise.put_row(pick, raise);
+    design.sink.put_row(pick, sink);
+    bind_line(raw.row(pick), long.row(pick), raise, sink, row);
 }

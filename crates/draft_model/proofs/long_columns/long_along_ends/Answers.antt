@@ -1,12 +1,9 @@
-use Rattle.std.proofs.Common.{◌≡◌, ◌<◌, ℕ, List, Bool, length, map, ap, sym, subst, ◌∙◌}
+use Rattle.std.proofs.Common.{◌≡◌, ◌<◌, ℕ, length, map, ap, sym, subst, ◌∙◌}
 use Rattle.std.proofs.lemmas.List.{length-map}
 use Rattle.mill_base.specs.Grids.{GridCells, grid_cell, transposed}
 use Rattle.mill_base.specs.Lines.{line_by}
 use Rattle.mill_base.proofs.lemmas.Lines.{length-line_by}
-use Rattle.cloth_floats.specs.Windows.{long_of, is_long}
-use Rattle.draft_model.specs.Cloths.{rows_by}
-use Rattle.draft_model.specs.Inner.{end_long, IsGridOf}
-use Rattle.draft_model.specs.declared.design.Design.{Design}
+use Rattle.cloth_floats.specs.Windows.{long_of}
 use Rattle.draft_model.proofs.LongGrids.{none_is_long, turned_back}
 use Rattle.draft_model.proofs.long_columns.long_along_ends.Goals as goal
 

@@ -1,8 +1,8 @@
-use Rattle.std.proofs.Common.{◌≡◌, ◌≢◌, ⊎_elim, ◌+◌, ◌<◌, ◌≤◌, ◌||◌, ℕ, List, [], Bool, false, length, get_or, set, ap, sym, subst, ◌∙◌, arith, length-set, get_or-set_other}
+use Rattle.std.proofs.Common.{◌≡◌, ◌≢◌, ⊎_elim, ◌<◌, ◌||◌, [], false, length, get_or, ap, sym, subst, ◌∙◌, arith}
 use Rattle.std.proofs.lemmas.Bool.{cases_eq}
 use Rattle.mill_base.specs.Grids.{GridCells}
 use Rattle.mill_base.specs.Lines.{line_by}
-use Rattle.mill_base.proofs.lemmas.Lines.{length-line_by, get_or-line_by, line_is, one_more}
+use Rattle.mill_base.proofs.lemmas.Lines.{length-line_by, get_or-line_by, line_is}
 use Rattle.std.proofs.lemmas.List.{length-replicate}
 use Rattle.mill_base.specs.Grids.{grid_row}
 use Rattle.harness_ties.specs.Ties.{tied, gathered}

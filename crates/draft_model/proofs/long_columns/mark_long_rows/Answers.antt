@@ -1,4 +1,4 @@
-use Rattle.std.proofs.Common.{◌<◌, ℕ, List, Bool, map, arith}
+use Rattle.std.proofs.Common.{map, arith}
 use Rattle.cloth_floats.specs.Windows.{long_of}
 use Rattle.draft_model.proofs.LongGrids.{grid_is, rows_mapped}
 use Rattle.draft_model.proofs.long_columns.mark_long_rows.Goals as goal
