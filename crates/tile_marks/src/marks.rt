@@ -1,5 +1,5 @@
 //! Marks.
-ghost use Rattle.std.specs.Prelude.{◌≡◌, ◌<◌, ◌↔◌, false, length, replicate, slice_index_or, slice_set, true, IfOk, IfSome, IsNone};
+ghost use Rattle.std.specs.Prelude.{◌≡◌, ◌<◌, ◌↔◌, false, count_by, length, replicate, slice_index_or, slice_set, true, IfOk, IfSome, IsNone};
 ghost use Rattle.tile_grid.specs.Tiles.{tiles};
 ghost use Rattle.tile_marks.specs.Marks.{IsNext, NoneFrom, with_near};
 
@@ -66,12 +66,26 @@ impl Marks {
         self.set.set(tile, false);
     }
 
+    /// Takes all tiles out of the set.
+    pub fn clear_all(&mut self)
+        ensures { self.new ≡ replicate (length self.old) false }
+    {
+        self.set.fill(false);
+    }
+
     /// Whether a tile is in the set.
     pub fn has(&self, tile: u32) -> bool
         requires { tile < length self.now }
         ensures { result ≡ slice_index_or self.now tile false }
     {
         self.set.get(tile)
+    }
+
+    /// How many tiles the set has.
+    pub fn count(&self) -> u32
+        ensures { result ≡ count_by (λ b. b) self.now }
+    {
+        self.set.count()
     }
 
     /// The first tile of the set from `from` on, which may be any number, and where there is none the first tile of the

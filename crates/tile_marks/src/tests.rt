@@ -88,6 +88,20 @@ fn next_goes_round_the_set(rt: HostRuntime) -> Result<(), Fail> {
     Ok(())
 }
 
+#[test]
+fn a_set_is_counted_and_emptied(rt: HostRuntime) -> Result<(), Fail> {
+    let mut marks = Marks::new(rt.alloc(), TILES)?;
+    assert_eq!(rt; marks.count(), 0);
+    marks.mark(4);
+    marks.mark(15);
+    marks.mark(4);
+    assert_eq!(rt; marks.count(), 2);
+    marks.clear_all();
+    assert_eq!(rt; marks.count(), 0);
+    assert_eq!(rt; marks.next(0), None);
+    Ok(())
+}
+
 /// What a set of so many tiles, of which the last is marked, answers for two numbers.
 fn last_found(alloc: Global, tiles: u32) -> Result<(Option<u32>, Option<u32>), OutOfMemory>
     requires { 0 < tiles }
