@@ -1,5 +1,5 @@
 -- What keeps the central fact.
-use Rattle.std.proofs.Common.{◌≡◌, ◌≢◌, ◌+◌, ◌-◌, ◌^◌, ◌<◌, ◌&&◌, ◌||◌, ℕ, Bool, true, false, List, [], length, get_or, set, get_or-set_same, get_or-set_other, refl, sym, ap, subst, ◌∙◌, ⊎_elim, arith}
+use Rattle.std.proofs.Common.{◌≡◌, ◌≢◌, ◌+◌, ◌-◌, ◌<◌, ◌&&◌, ◌||◌, ℕ, Bool, true, false, List, [], length, get_or, set, get_or-set_same, get_or-set_other, refl, sym, ap, subst, ◌∙◌, ⊎_elim, arith}
 use Rattle.std.proofs.lemmas.Bool.{cases_eq, both_ways, and_from, false_from_ne_true, or_parts}
 use Rattle.mill_base.specs.Below.{any_below}
 use Rattle.mill_base.specs.Grids.{GridCells}
@@ -13,7 +13,7 @@ use Rattle.draft_model.specs.Designs.{Fits, IsBitsOf, IsPaperOf}
 use Rattle.draft_model.specs.Drawdowns.{bound, cell_bound}
 use Rattle.tile_grid.specs.Near.{near}
 use Rattle.tile_grid.specs.Tiles.{tile_of, tiles}
-use Rattle.tile_grid.proofs.lemmas.Tiles.{tile_there, tiles_few}
+use Rattle.tile_grid.proofs.lemmas.Tiles.{tile_there}
 use Rattle.tile_marks.specs.Marks.{NoneFrom}
 use Rattle.tile_rebuild.specs.declared.part.Part.{Part}
 use Rattle.tile_rebuild.specs.Lines.{AreBitsOf, AreColoursOf}
@@ -44,10 +44,6 @@ pub bound_of_design : (design : Design) (paper : PaperCells) → IsPaperOf desig
 bound_of_design design paper is = record { columns = columns-bound design paper ∙ is.columns; picks = picks-bound design paper ∙ is.picks }
 
 -- ---- tiles that are bound and checked
-
--- a list with a place for each tile is not too long to be counted
-pub few_tiles : (design : Design) (marks : List Bool) → Fits design → length marks ≡ tiles (grid_of design) → length marks < 2 ^ 32
-few_tiles design marks fits long = let h = tiles_few (grid_of design) (grid_there design fits) in omega (arith, h, long)
 
 -- a cell of a tile's part is one of the tile, and the other way round
 has_cell : (design : Design) (tile c p : ℕ) → Fits design → c < design.size.columns → p < design.size.picks → tile_of (grid_of design) c p ≡ tile → HasCell (part_at (grid_of design) tile) c p

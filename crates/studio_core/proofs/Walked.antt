@@ -1,9 +1,9 @@
 -- Walks over sets of tiles.
-use Rattle.std.proofs.Common.{◌≡◌, ◌+◌, ◌*◌, ◌<◌, ◌≤◌, ◌&&◌, ◌||◌, ℕ, Bool, true, false, cond, List, length, get_or, set, take, replicate, count_by, inl, inr, refl, sym, ap, ◌∙◌, ⊎_elim, arith, add-one, length-take}
+use Rattle.std.proofs.Common.{◌≡◌, ◌+◌, ◌*◌, ◌<◌, ◌≤◌, ◌&&◌, ◌||◌, ℕ, Bool, true, false, cond, List, length, get_or, set, replicate, count_by, inl, inr, refl, sym, ap, ◌∙◌, ⊎_elim, arith, add-one}
 use Rattle.std.proofs.Math.Nat.{mul-le-mul_right}
 use Rattle.std.proofs.lemmas.Bool.{cases_lt, both_ways, and_left}
-use Rattle.std.proofs.lemmas.List.{ext_get_or, get_or-take, get_or-replicate, length-replicate}
-use Rattle.std.proofs.lemmas.List.Sums.{count_by_more_yes, sum_by-take-le, sum_by-set}
+use Rattle.std.proofs.lemmas.List.{ext_get_or, get_or-replicate, length-replicate}
+use Rattle.std.proofs.lemmas.List.Sums.{sum_by-set}
 use Rattle.mill_base.specs.Below.{any_below}
 use Rattle.mill_base.specs.Firsts.{IsFirstTrue}
 use Rattle.mill_base.proofs.lemmas.Belows.{any_here, any_witness, true_together}
@@ -44,32 +44,7 @@ pub near_whole : (grid : GridValue) (of : List Bool) (from n u : ℕ) → from �
 near_whole grid of from n u ahead none =
     sym (any_skipped (λ t. get_or of t false && near grid t u) from n ahead (λ i late below. and_left (get_or of i false) (near grid i u) (none i late)))
 
--- a set without a tile
-pub none_left : (set : List Bool) (n from : ℕ) → length set ≡ n → ((u : ℕ) → u < from → get_or set u false ≡ false) → NoneFrom set from → set ≡ replicate n false
-none_left set n from long before none =
-    ext_get_or false set (replicate n false) (long ∙ sym (length-replicate n false))
-    (λ u h. ⊎_elim (λ (low : u < from). before u low) (λ (late : from ≤ u). none u late) (cases_lt u from)
-    ∙ sym (get_or-replicate n u false false (omega (arith, h, long))))
-
 -- ---- how many tiles a set has
-
-take_twice : (xs : List Bool) (a b : ℕ) → a ≤ b → take a (take b xs) ≡ take a xs
-take_twice xs a b h =
-    ext_get_or false (take a (take b xs)) (take a xs) (omega (arith, length-take a (take b xs), length-take b xs, length-take a xs))
-    (λ k low.
-    let short : k < a = omega (arith, low, length-take a (take b xs)) in
-    get_or-take a (take b xs) k false short ∙ get_or-take b xs k false (omega arith) ∙ sym (get_or-take a xs k false short))
-
--- one tile more
-pub many_more : (set : List Bool) (from tile count : ℕ) → IsFirstTrue set from tile → count ≤ count_by (λ b. b) (take from set) → count + 1 ≤ count_by (λ b. b) (take (tile + 1) set)
-many_more set from tile count first many =
-    let part = sum_by-take-le (λ b. cond b 1 0) (take tile set) from in
-    let same = ap (count_by (λ b. b)) (take_twice set from tile first.ahead) in
-    let more = count_by_more_yes (λ b. b) set tile false first.within first.here in
-    omega arith
-
-pub many_whole : (set : List Bool) (from count : ℕ) → count ≤ count_by (λ b. b) (take from set) → count ≤ count_by (λ b. b) set
-many_whole set from count many = let part = sum_by-take-le (λ b. cond b 1 0) set from in omega arith
 
 -- one tile less
 pub one_less : (marks : List Bool) (tile : ℕ) → tile < length marks → get_or marks tile false ≡ true → count_by (λ b. b) (set marks tile false) + 1 ≡ count_by (λ b. b) marks

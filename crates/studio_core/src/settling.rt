@@ -9,7 +9,6 @@ ghost use Rattle.studio_core.specs.Cores.{AreCells, AreFlags, IsCentral};
 ghost use Rattle.studio_core.specs.inner.Rooms.{AreRooms};
 
 use crate::rooms::Rooms;
-use crate::walking::{clear_all, has_many};
 use draft_model::design::Design;
 use mill_base::bit_row::BitRow;
 use mill_base::steps::Steps;
@@ -77,7 +76,7 @@ fn settle_bind<L: Ledger>(
     ensures later { steps.old ≤ steps.new }
     ensures most { steps.new ≤ steps.old + count_by (λ b. b) bind.old * (2 * design.now.tile * (design.now.size.columns + design.now.size.picks)) }
 {
-    if has_many(bind, many(design)) {
+    if bind.count() >= many(design) {
         bind_whole(
             design,
             paper,
@@ -86,7 +85,7 @@ fn settle_bind<L: Ledger>(
             bits,
             steps,
         );
-        clear_all(bind);
+        bind.clear_all();
         return;
     }
     bind_tiles(design, paper, bits, bind, rooms, steps);
@@ -113,16 +112,16 @@ fn settle_check(
     ensures flags { length flags.new ≡ length flags.old }
     ensures rooms { AreRooms design.now rooms.new }
 {
-    if has_many(check, many(design)) {
+    if check.count() >= many(design) {
         check_whole(design, bits, &mut rooms.whole, flags);
-        clear_all(check);
+        check.clear_all();
         return;
     }
     check_tiles(design, bits, check, flags, rooms);
 }
 
-// How many tiles have lines with half as many cells as the paper: with so many marked, one pass over the whole paper takes no more steps
-// than are allowed, and less time.
+// From how many marked tiles on one pass over the whole paper takes no more steps than are allowed: their lines have half as many cells as
+// the paper. It takes less time too, since it goes by whole words and a tile's columns are read cell by cell.
 fn many(design: &Design) -> u32
     requires { Fits design.now }
     ensures { design.now.size.columns * design.now.size.picks ≤ result * (2 * design.now.tile * (design.now.size.columns + design.now.size.picks)) }

@@ -9,7 +9,7 @@ ghost use Rattle.tile_rebuild.specs.Tiles.{grid_of};
 ghost use Rattle.studio_core.specs.Touches.{bind_tiles, check_tiles, near_any};
 ghost use Rattle.studio_core.specs.inner.Touched.{grid_size, span_touches, spans_touch};
 
-use crate::walking::{clear_all, mark_near};
+use crate::walking::mark_near;
 use draft_model::design::Design;
 use point_paper::paper::{Paper, Span};
 use strokes::prepared::Prepared;
@@ -74,9 +74,9 @@ fn mark_touched(
     ensures lengths { (length touched.new ≡ tiles grid.now) × (length near.new ≡ tiles grid.now) × (length bind.new ≡ tiles grid.now) × (length check.new ≡ tiles grid.now) }
 {
     grid.tiles();
-    clear_all(touched);
+    touched.clear_all();
     mark_spans(grid, spans, touched);
-    clear_all(near);
+    near.clear_all();
     mark_near(grid, touched, near);
     mark_near(grid, touched, bind);
     mark_near(grid, near, check);

@@ -1,5 +1,5 @@
 //! Walks over sets of tiles, from the lowest tile on.
-ghost use Rattle.std.specs.Prelude.{◌≡◌, ◌↔◌, ℕ, ◌^◌, ◌<◌, ◌≤◌, ◌||◌, false, true, length, replicate, slice_index_or, count_by, None, IfSome, IsTrue};
+ghost use Rattle.std.specs.Prelude.{◌≡◌, ◌↔◌, ℕ, ◌^◌, ◌<◌, ◌||◌, false, true, length, slice_index_or, None, IfSome, IsTrue};
 ghost use Rattle.mill_base.specs.Firsts.{IsFirstTrue};
 ghost use Rattle.tile_grid.specs.Tiles.{tiles};
 ghost use Rattle.tile_marks.specs.Marks.{NoneFrom};
@@ -19,18 +19,6 @@ pub(crate) fn next_from(set: &Marks, from: u32) -> Option<u32>
         return None;
     }
     Some(tile)
-}
-
-/// Takes all tiles out of a set.
-pub(crate) fn clear_all(set: &mut Marks)
-    requires { length set.old < 2 ^ 32 }
-    ensures { set.new ≡ replicate (length set.old) false }
-{
-    let mut from = 0;
-    while let Some(tile) = next_from(set, from) {
-        set.clear(tile);
-        from = tile + 1;
-    }
 }
 
 /// Adds to a set the tiles that are near a tile of another.
@@ -60,7 +48,7 @@ pub(crate) fn is_near_clear(grid: &Grid, tile: u32, set: &Marks, near: &mut Mark
 {
     tile_marks::laws::a_set_with_near_tiles_has_those_and_no_others();
     grid.tiles();
-    clear_all(near);
+    near.clear_all();
     near.mark_near(grid, tile);
     are_apart(near, set)
 }
@@ -76,21 +64,6 @@ fn are_apart(one: &Marks, other: &Marks) -> bool
         if other.has(tile) {
             return false;
         }
-        from = tile + 1;
-    }
-    true
-}
-
-/// Whether a set has so many tiles at least. Where it has fewer, nothing is said.
-pub(crate) fn has_many(set: &Marks, least: u32) -> bool
-    requires { length set.now < 2 ^ 32 }
-    ensures { result ≡ true → least ≤ count_by (λ b. b) set.now }
-{
-    let mut from = 0;
-    for _ in 0..least {
-        let Some(tile) = next_from(set, from) else {
-            return false;
-        };
         from = tile + 1;
     }
     true

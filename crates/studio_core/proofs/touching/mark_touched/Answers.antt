@@ -8,14 +8,14 @@ use Rattle.studio_core.proofs.touching.mark_touched.Goals as goal
 -- the set of touched tiles
 touched_is : (c : goal.After-mark_near-3) (t : ℕ) → t < tiles c.args.grid.now → get_or c.mark_spans.new.set t false ≡ spans_touch c.args.grid.now c.args.spans.now t
 touched_is c t low =
-    from_none c.clear_all.new.set c.mark_spans.new.set (length c.args.touched.now) (tiles c.args.grid.now) t (spans_touch c.args.grid.now c.args.spans.now) c.clear_all.ensures c.requires.touched low
+    from_none c.clear_all.new.self c.mark_spans.new.set (length c.args.touched.now) (tiles c.args.grid.now) t (spans_touch c.args.grid.now c.args.spans.now) c.clear_all.ensures c.requires.touched low
     (c.mark_spans.ensures.tiles t low)
 
 -- the set of the tiles near them
 near_is : (c : goal.After-mark_near-3) (t : ℕ) → t < tiles c.args.grid.now → get_or c.mark_near.new.set t false ≡ near_any c.args.grid.now (spans_touch c.args.grid.now c.args.spans.now) t
 near_is c t low =
     let grid = c.args.grid.now in
-    from_none c.clear_all-2.new.set c.mark_near.new.set (length c.args.near.now) (tiles grid) t (near_any grid (λ u. get_or c.mark_spans.new.set u false)) c.clear_all-2.ensures c.requires.near low
+    from_none c.clear_all-2.new.self c.mark_near.new.set (length c.args.near.now) (tiles grid) t (near_any grid (λ u. get_or c.mark_spans.new.set u false)) c.clear_all-2.ensures c.requires.near low
     (c.mark_near.ensures.tiles t low)
     ∙ near_alike grid (λ u. get_or c.mark_spans.new.set u false) (spans_touch grid c.args.spans.now) t (touched_is c)
 
