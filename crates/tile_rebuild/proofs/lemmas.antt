@@ -7,3 +7,4 @@ pub mod Passes
 pub mod Picks
 pub mod Puts
 pub mod Rebuilt
+pub mod SomeTiles

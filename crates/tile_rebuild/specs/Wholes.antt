@@ -1,7 +1,10 @@
--- What the rebuilding of a whole paper works in.
+-- What the rebuilding of a whole paper, or of many of its tiles, works in.
 use Rattle.std.specs.Prelude.{◌≡◌, length}
+use Rattle.tile_grid.specs.Tiles.{tiles}
 use Rattle.tile_rebuild.specs.declared.parts.Parts.{Parts}
+use Rattle.tile_rebuild.specs.declared.some_tiles.LineRoom.{LineRoom}
 use Rattle.tile_rebuild.specs.declared.whole.WholeRoom.{WholeRoom}
+use Rattle.tile_rebuild.specs.Tiles.{grid_at}
 
 -- rows and grids of the sizes that a whole paper of a design needs
 pub record IsWholeRoom (parts : Parts) (room : WholeRoom) : Type 0 where
@@ -16,3 +19,9 @@ pub record IsWholeRoom (parts : Parts) (room : WholeRoom) : Type 0 where
   pub ends_long : length room.ends_long ≡ length parts.tie.ends
   pub columns : length room.columns ≡ parts.size.columns
   pub colours : length room.colours.items ≡ parts.size.columns
+
+-- a row with a position for each column, one with a position for each pick, and one with a position for each tile
+pub record IsLineRoom (parts : Parts) (room : LineRoom) : Type 0 where
+  pub columns : length room.columns ≡ parts.size.columns
+  pub picks : length room.picks ≡ parts.size.picks
+  pub found : length room.found ≡ tiles (grid_at parts)

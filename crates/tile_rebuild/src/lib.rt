@@ -14,6 +14,7 @@ pub mod part;
 pub mod parts;
 pub mod rebuild;
 pub mod room;
+pub mod some_tiles;
 #[cfg(test)]
 mod tests;
 pub mod whole;

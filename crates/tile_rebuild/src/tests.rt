@@ -9,6 +9,7 @@ use crate::cells::put_cells;
 use crate::check_job::{CheckDone, CheckJob};
 use crate::part::part_of;
 use crate::room::BindRows;
+use crate::some_tiles::{LineRoom, check_some};
 use crate::whole::{WholeRoom, bind_whole, check_whole};
 use casting_out::casting::Casting;
 use draft_model::design::Design;
@@ -334,14 +335,34 @@ fn flags(alloc: Global, work: &Work, bits: &BitPaper) -> Result<BitRow, Fail>
     Ok(flags)
 }
 
-/// Jobs, and one pass, set the flags of these tiles and of no others.
+/// The flag of a tile, by the lines that cross it.
+fn lone_flag(alloc: Global, work: &Work, bits: &BitPaper, tile: u32) -> Result<bool, Fail>
+    requires bits { IsBitsOf work.now.design bits.now }
+    requires tile { tile < tiles (grid_of work.now.design) }
+{
+    let count = tile_count(alloc, &work.design)?;
+    let mut some = BitRow::new(alloc, count)?;
+    some.set(tile, true);
+    let mut flags = BitRow::new(alloc, count)?;
+    flags.fill(true);
+    let mut lines = LineRoom::new(alloc, &work.design, count)?;
+    let mut room = WholeRoom::new(alloc, &work.design)?;
+    check_some(&work.design, bits, &some, &mut lines, &mut room, &mut flags);
+    Ok(flags.get(tile))
+}
+
+/// Jobs, the lines of each tile alone, and one pass set the flags of these tiles and of no others.
 fn expect_flags(rt: &impl Abort, alloc: Global, work: &Work, want: &[u32]) -> Result<(), Fail> {
     let bits = bound_at_once(alloc, work)?;
     let flags = flags(alloc, work, &bits)?;
     for tile in 0..tile_count(alloc, &work.design)? {
-        let told = (flag(alloc, work, &bits, tile)?, flags.get(tile));
+        let told = (
+            flag(alloc, work, &bits, tile)?,
+            lone_flag(alloc, work, &bits, tile)?,
+            flags.get(tile),
+        );
         let long = want.contains(&tile);
-        assert_eq!(rt; told, (long, long), "tile {tile}");
+        assert_eq!(rt; told, (long, long, long), "tile {tile}");
     }
     Ok(())
 }

@@ -209,8 +209,8 @@ fn bind_pick(design: &Design, pick: u32, room: &WholeRoom, rows: &mut BindRows, 
     bits.set_row(pick, &rows.bound);
 }
 
-// Sets the grid of the room to the cells of a bit paper.
-fn copy_bits(design: &Design, bits: &BitPaper, room: &mut WholeRoom)
+/// Sets the grid of the room to the cells of a bit paper.
+pub(crate) fn copy_bits(design: &Design, bits: &BitPaper, room: &mut WholeRoom)
     requires fits { Fits design.now }
     requires bits { IsBitsOf design.now bits.now }
     requires room { IsWholeRoom (parts_of design.now) room.old }
@@ -245,8 +245,8 @@ fn flag_picks(design: &Design, room: &mut WholeRoom, flags: &mut BitRow)
     }
 }
 
-// Sets the flags of the tiles that have a long cell in a pick, where it is known which of its columns are long. All other flags stay.
-fn flag_pick(design: &Design, pick: u32, long: &BitRow, flags: &mut BitRow)
+/// Sets the flags of the tiles that have a long cell in a pick, where it is known which of its columns are long. All other flags stay.
+pub(crate) fn flag_pick(design: &Design, pick: u32, long: &BitRow, flags: &mut BitRow)
     requires fits { Fits design.now }
     requires pick { pick < design.now.size.picks }
     requires long { length long.now ≡ design.now.size.columns }

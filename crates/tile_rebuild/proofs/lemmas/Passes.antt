@@ -1,8 +1,10 @@
 -- A whole paper, pick by pick.
-use Rattle.std.proofs.Common.{◌≡◌, ◌≢◌, ◌+◌, ◌<◌, ℕ, Bool, List, [], false, length, get_or, sym, ap, subst, ◌∙◌, ⊎_elim, arith}
+use Rattle.std.proofs.Common.{◌≡◌, ◌≢◌, ◌+◌, ◌<◌, ◌≤◌, ℕ, Bool, List, [], false, true, length, get_or, set, sym, ap, subst, ◌∙◌, ⊎_elim, arith, get_or-set_same, get_or-set_other}
 use Rattle.std.specs.Prelude.{All, slice_index}
-use Rattle.std.proofs.lemmas.Bool.{cases_eq}
-use Rattle.mill_base.specs.Grids.{GridCells, grid_cell, row_cell}
+use Rattle.std.proofs.lemmas.Bool.{both_ways, cases_eq, cases_lt}
+use Rattle.mill_base.specs.Firsts.{IsFirstTrue}
+use Rattle.mill_base.specs.Grids.{GridCells, grid_cell, grid_row, row_cell, transposed}
+use Rattle.cloth_floats.specs.Windows.{is_long, long_of}
 use Rattle.mill_base.specs.Lines.{line_by}
 use Rattle.mill_base.proofs.lemmas.Lines.{length-line_by, get_or-line_by}
 use Rattle.point_paper.specs.Papers.{PaperCells, BitCells, IsBitPaper, bit_cell, cell_of, pick_of}
@@ -12,8 +14,8 @@ use Rattle.draft_model.specs.Designs.{Fits, IsPaperOf, IsBitsOf}
 use Rattle.draft_model.specs.Cloths.{raw, raw_cell}
 use Rattle.draft_model.specs.Drawdowns.{bound, cell_bound, column_long}
 use Rattle.draft_model.proofs.lemmas.LongCells.{long_cell_alike, bound_around}
-use Rattle.tile_rebuild.specs.inner.Passes.{HasCells, grid_bound, grid_long}
-use Rattle.tile_rebuild.proofs.lemmas.Rebuilt.{IsBoundByLines, IsLongByLines}
+use Rattle.tile_rebuild.specs.inner.Passes.{AreMarks, HasCells, grid_bound, grid_long}
+use Rattle.tile_rebuild.proofs.lemmas.Rebuilt.{IsBoundByLines, IsLongByLines, get_or-long_of}
 
 -- one more row of a paper has the formula's cells
 pub one_more_row : (columns : ℕ) (old new : List (List Bool)) (n : ℕ) (cell : ℕ → ℕ → Bool) → ((x : ℕ) → x < columns → row_cell new x n ≡ cell x n)
@@ -82,3 +84,36 @@ grid_long_is design bits grid c p fits is law reads hc hp =
     long_cell_alike design (λ x. grid_cell grid x p) (λ x. bit_cell bits x p) (λ y. grid_cell grid c y) (λ y. bit_cell bits c y) c p
     (λ x h. reads (slice_index design.tie.ends x) p (fits.tied x 0 h) hp) (λ y h. reads c y hc h)
     ∙ sym (law bits c p hc is.picks hp)
+
+-- what is known of the columns of a pick, told of equal grids
+pub marks_moved : (design : Design) (raw raw' long long' : GridCells) (marks : List Bool) (pick : ℕ) → AreMarks design raw long marks pick → raw ≡ raw' → long ≡ long' → AreMarks design raw' long' marks pick
+marks_moved design raw raw' long long' marks pick are e f =
+    subst (λ (g : GridCells). AreMarks design g long' marks pick) e (subst (λ (g : GridCells). AreMarks design raw g marks pick) f are)
+
+-- one more of the rows that are asked for
+pub some_rows_more : (old mid : List (List Bool)) (which line : List Bool) (from k : ℕ) (marked : List Bool → List Bool) → IsFirstTrue which from k → k < length mid
+    → line ≡ marked (get_or mid k []) → ((j : ℕ) → from ≤ j → get_or mid j [] ≡ get_or old j [])
+    → ((j : ℕ) → j < from → get_or which j false ≡ true → get_or mid j [] ≡ marked (get_or old j []))
+    → (j : ℕ) → j < k + 1 → get_or which j false ≡ true → get_or (set mid k line) j [] ≡ marked (get_or old j [])
+some_rows_more old mid which line from k marked first room is left done j low on = ⊎_elim
+    (λ (last : j ≡ k).
+    ap (λ n. get_or (set mid k line) n []) last ∙ get_or-set_same mid k line [] room ∙ is ∙ ap marked (left k first.ahead) ∙ ap (λ n. marked (get_or old n [])) (sym last))
+    (λ (other : j ≢ k). get_or-set_other mid k j line [] other ∙ ⊎_elim
+    (λ (early : j < from). done j early on)
+    (λ (late : from ≤ j). absurd (both_ways (get_or which j false) (first.before j late (omega arith)) on))
+    (cases_lt j from))
+    (cases_eq j k)
+
+-- a row of a turned grid, once it was marked, says where its column is long
+pub row_long : (design : Design) (raw turned marked : GridCells) (x p : ℕ) → raw.width ≡ design.size.columns → length raw.rows ≡ design.size.picks → turned ≡ transposed raw
+    → grid_row marked x ≡ long_of (grid_row turned x) design.warp_face design.warp_back → x < design.size.columns → p < design.size.picks
+    → grid_cell marked p x ≡ is_long (line_by design.size.picks (λ y. grid_cell raw x y)) design.warp_face design.warp_back p
+row_long design raw turned marked x p raw_wide raw_high is row hx hp =
+    let cells = line_by design.size.picks (λ y. grid_cell raw x y) in
+    let wide : x < raw.width = omega (arith, hx, raw_wide) in
+    let line : grid_row turned x ≡ cells =
+    ap (λ (g : GridCells). grid_row g x) is
+    ∙ get_or-line_by raw.width (λ column. line_by (length raw.rows) (grid_cell raw column)) x [] wide ∙ ap (λ n. line_by n (λ y. grid_cell raw x y)) raw_high in
+    ap (λ (xs : List Bool). get_or xs p false) row
+    ∙ ap (λ (xs : List Bool). get_or (long_of xs design.warp_face design.warp_back) p false) line
+    ∙ get_or-long_of cells design.warp_face design.warp_back p (subst (λ n. p < n) (sym (length-line_by design.size.picks (λ y. grid_cell raw x y))) hp)

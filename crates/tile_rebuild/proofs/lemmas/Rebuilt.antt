@@ -1,6 +1,7 @@
 -- From the lines that cross a tile to its cells.
 use Rattle.std.proofs.Common.{◌≡◌, ◌+◌, ◌-◌, ◌*◌, ◌/◌, ◌<◌, ◌&&◌, ◌||◌, ℕ, min, Bool, false, List, length, get_or, sym, ap, subst, ◌∙◌, arith}
 use Rattle.std.specs.Prelude.{slice_index, ◌==◌}
+use Rattle.std.proofs.lemmas.Bool.{and_parts, both_ways, false_from_ne_true}
 use Rattle.std.proofs.lemmas.Nat.{div-mul-add, mod_below, div-add-mod'}
 use Rattle.mill_base.specs.Below.{any_below}
 use Rattle.mill_base.specs.Grids.{GridCells, grid_cell, grid_row}
@@ -48,6 +49,19 @@ gathered_long design row marks columns column is low =
     (λ e below. ap (λ b. slice_index ends e == column && b)
     (ap (λ (xs : List Bool). get_or xs e false) is
     ∙ get_or-long_of line design.weft_back design.weft_face e (subst (λ n. e < n) (sym (length-line_by (length ends) (λ x. get_or row (slice_index ends x) false))) below)))
+
+-- no end is long along a pick
+pub none_gathered : (design : Design) (row marks : List Bool) (columns column : ℕ) → marks ≡ long_of (tied design.tie.ends row) design.weft_back design.weft_face → column < columns
+    → ((e : ℕ) → get_or marks e false ≡ false) → any_below (is_weft_long design (λ x. get_or row x false) column) (length design.tie.ends) ≡ false
+none_gathered design row marks columns column is low none =
+    let ends = design.tie.ends in
+    let long = λ (e : ℕ). slice_index ends e == column && get_or marks e false in
+    sym (gathered_long design row marks columns column is low)
+    ∙ get_or-line_by columns (λ c. any_below (λ e. slice_index ends e == c && get_or marks e false) (length ends)) column false low
+    ∙ false_from_ne_true (any_below long (length ends))
+    (λ some.
+    let w = any_witness long (length ends) some in
+    both_ways (get_or marks w.0 false) (none w.0) (and_parts (slice_index ends w.0 == column) (get_or marks w.0 false) w.2).1)
 
 -- a cell that is long along its pick or along its column
 pub long_joined : (design : Design) (row up : ℕ → Bool) (column pick : ℕ) (found hit : Bool)

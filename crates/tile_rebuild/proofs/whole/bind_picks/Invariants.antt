@@ -4,7 +4,7 @@ use Rattle.draft_model.specs.Designs.{IsBitsOf}
 use Rattle.tile_rebuild.specs.Tiles.{parts_of}
 use Rattle.tile_rebuild.specs.Rebuilds.{AreRows}
 use Rattle.tile_rebuild.specs.Wholes.{IsWholeRoom}
-use Rattle.tile_rebuild.specs.inner.Passes.{AreEndsLong, grid_bound}
+use Rattle.tile_rebuild.specs.inner.Passes.{grid_bound}
 use Rattle.tile_rebuild.proofs.whole.bind_picks.Given as goal
 
 abbrev pub invariant-loop-pick : goal.invariant-loop-pick
@@ -12,7 +12,7 @@ invariant-loop-pick l = record {
   rows : AreRows (parts_of l.design) l.rows;
   room : IsWholeRoom (parts_of l.design) l.room;
   raw : l.room.raw ≡ l.fn.room.raw;
-  ends : AreEndsLong l.design l.room.raw l.room.long;
+  long : l.room.long ≡ l.fn.room.long;
   bits : IsBitsOf l.design l.bits;
   bound : (c p : ℕ) → c < l.design.size.columns → p < l.pick → bit_cell l.bits c p ≡ grid_bound l.design l.fn.room.raw c p;
 }
