@@ -277,6 +277,7 @@ rooms_row design rooms row are same = record {
   for_cells = are.for_cells;
   for_row = same ∙ are.for_row;
   for_whole = are.for_whole;
+  for_marked = are.for_marked;
   for_touched = are.for_touched;
   for_near = are.for_near;
 }
@@ -296,6 +297,7 @@ rooms_sets design rooms touched near are for_touched for_near = record {
   for_cells = are.for_cells;
   for_row = are.for_row;
   for_whole = are.for_whole;
+  for_marked = are.for_marked;
   for_touched = for_touched;
   for_near = for_near;
 }

@@ -13,6 +13,7 @@ use tile_marks::marks::Marks;
 use tile_rebuild::bit_lines::BitLines;
 use tile_rebuild::colour_lines::ColourLines;
 use tile_rebuild::room::{BindRows, Room, tile_cells};
+use tile_rebuild::some_tiles::LineRoom;
 use tile_rebuild::whole::WholeRoom;
 
 /// Room for any tile of a design, and for all of them at once.
@@ -32,6 +33,8 @@ pub(crate) struct Rooms {
     pub(crate) row: BitRow,
     /// All tiles at once.
     pub(crate) whole: WholeRoom,
+    /// The lines of marked tiles.
+    pub(crate) marked: LineRoom,
     /// Tiles that an act touches.
     pub(crate) touched: Marks,
     /// Tiles that are near others.
@@ -51,6 +54,7 @@ impl Rooms {
         let cells = tile_cells(alloc, design)?;
         let row = BitRow::new(alloc, design.size.columns)?;
         let whole = WholeRoom::new(alloc, design)?;
+        let marked = LineRoom::new(alloc, design, tiles)?;
         let touched = Marks::new(alloc, tiles)?;
         let near = Marks::new(alloc, tiles)?;
         Ok(Rooms {
@@ -61,6 +65,7 @@ impl Rooms {
             cells,
             row,
             whole,
+            marked,
             touched,
             near,
         })

@@ -19,7 +19,8 @@ use tile_marks::marks::Marks;
 use tile_rebuild::cells::put_cells;
 use tile_rebuild::part::part_of;
 use tile_rebuild::rebuild::{bind_tile, check_tile};
-use tile_rebuild::whole::{bind_whole, check_whole};
+use tile_rebuild::some_tiles::check_some;
+use tile_rebuild::whole::bind_whole;
 
 /// Binds and checks all marked tiles, and takes all marks away. Then the bits are the bound paper, and the flags say which tiles of it
 /// have a long cell.
@@ -112,12 +113,27 @@ fn settle_check(
     ensures flags { length flags.new ≡ length flags.old }
     ensures rooms { AreRooms design.now rooms.new }
 {
-    if check.count() >= many(design) {
-        check_whole(design, bits, &mut rooms.whole, flags);
+    if check.count() > few(design) {
+        check_some(
+            design,
+            bits,
+            check.row(),
+            &mut rooms.marked,
+            &mut rooms.whole,
+            flags,
+        );
         check.clear_all();
         return;
     }
     check_tiles(design, bits, check, flags, rooms);
+}
+
+// How many tiles take up a small part of the paper's columns at most: so few are read faster bit by bit than the whole paper is turned.
+fn few(design: &Design) -> u32
+    requires { Fits design.now }
+    ensures { result * (16 * design.now.tile) ≤ design.now.size.columns }
+{
+    design.size.columns / (16 * design.tile)
 }
 
 // From how many marked tiles on one pass over the whole paper takes no more steps than are allowed: their lines have half as many cells as

@@ -81,6 +81,13 @@ impl Marks {
         self.set.get(tile)
     }
 
+    /// The set as a row with a position for each tile.
+    pub fn row(&self) -> &BitRow
+        ensures { result.now ≡ self.now }
+    {
+        &self.set
+    }
+
     /// How many tiles the set has.
     pub fn count(&self) -> u32
         ensures { result ≡ count_by (λ b. b) self.now }

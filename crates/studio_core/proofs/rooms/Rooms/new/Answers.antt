@@ -17,6 +17,7 @@ returns c =
       for_cells = c.in_ok-cells.ensures;
       for_row = ap length c.in_ok-row.ensures ∙ length-replicate design.size.columns false;
       for_whole = c.in_ok-whole.ensures;
+      for_marked = c.in_ok-marked.ensures;
       for_touched = ap length c.in_ok-touched.ensures ∙ length-replicate c.args.tiles false ∙ c.requires;
       for_near = ap length c.in_ok-near.ensures ∙ length-replicate c.args.tiles false ∙ c.requires;
     }
