@@ -1,4 +1,3 @@
-pub mod Marks
 pub mod Puts
 pub mod Tellings
 pub mod Texts
