@@ -23,8 +23,8 @@ pub struct Mounting {
     is_cast: bool,
 }
 
-/// The picks of the cloth.
-const PICKS: u32 = 4096;
+/// The picks of the cloth: as many as it has columns.
+const PICKS: u32 = MAX_COLUMNS;
 
 impl Mounting {
     /// The mounting of a name.
@@ -174,7 +174,7 @@ fn casting(alloc: Global, is_cast: bool) -> Option<Casting>
 
 fn random_bits(alloc: Global) -> Result<BitPaper, OutOfMemory>
     ensures columns { IfOk result (λ bits. bits.columns ≡ MAX_COLUMNS) }
-    ensures picks { IfOk result (λ bits. length bits.rows ≡ 4096) }
+    ensures picks { IfOk result (λ bits. length bits.rows ≡ MAX_COLUMNS) }
 {
     let size = Size {
         columns: MAX_COLUMNS,

@@ -33,7 +33,7 @@ pub struct Tiles {
 
 const SIZE: Size = Size {
     columns: MAX_COLUMNS,
-    picks: 4096,
+    picks: MAX_COLUMNS,
 };
 
 /// The limit of floats of an ordinary cloth.
@@ -129,7 +129,7 @@ fn design(tie: Tie, book: Book, casting: Casting) -> Design
     requires casting { length casting.columns ≡ MAX_COLUMNS }
     requires hooks { casting.hooks ≡ MAX_COLUMNS }
     ensures fits { Fits result }
-    ensures size { result.size ≡ record { columns = MAX_COLUMNS; picks = 4096 } }
+    ensures size { result.size ≡ record { columns = MAX_COLUMNS; picks = MAX_COLUMNS } }
     ensures colours { length result.book ≡ 1 }
 {
     Design {
