@@ -78,16 +78,16 @@ impl Tiles {
     pub fn mark(self, alloc: Global, rounds: u32) -> Option<u32> {
         let tie = Form::Straight.tie(alloc)?;
         let grid = Grid::build(alloc, SIZE, self.side, &tie, self.limit, self.limit).ok()?;
-        mark_rounds(alloc, &grid, rounds).ok()?
+        mark_rounds(alloc, &grid, rounds).ok()
     }
 }
 
-fn mark_rounds(alloc: Global, grid: &Grid, rounds: u32) -> Result<Option<u32>, OutOfMemory> {
+fn mark_rounds(alloc: Global, grid: &Grid, rounds: u32) -> Result<u32, OutOfMemory> {
     let mut marks = Marks::new(alloc, grid.tiles())?;
     for round in 0..rounds {
         mark_near(&mut marks, grid, round);
     }
-    Ok(marks.next(0))
+    Ok(marks.count())
 }
 
 fn mark_near(marks: &mut Marks, grid: &Grid, round: u32)
