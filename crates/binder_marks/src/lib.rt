@@ -58,6 +58,3 @@ fn bound_word(raw: u64, long: u64, raise: u64, sink: u64) -> u64
     let raised = long & raise;
     (raw & !lowered) | (raised & !raw)
 }
-
-#[cfg(test)]
-mod tests;

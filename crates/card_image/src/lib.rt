@@ -11,6 +11,4 @@ mod holes;
 pub mod laws;
 mod plan;
 mod so_far;
-#[cfg(test)]
-mod tests;
 mod writing;

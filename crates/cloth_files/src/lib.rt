@@ -13,6 +13,3 @@ pub use cards::chain_file;
 pub use drawings::{drawdown_file, paper_file};
 pub use images::{image_of_cloth, image_of_paper};
 pub use lifting::{LiftRefusal, lifted_file};
-
-#[cfg(test)]
-mod tests;

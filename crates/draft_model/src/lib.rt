@@ -9,5 +9,3 @@ pub mod first_float;
 pub mod float_run;
 pub mod laws;
 mod long_columns;
-#[cfg(test)]
-mod tests;

@@ -7,6 +7,4 @@ mod joining;
 pub mod laws;
 pub mod section;
 mod stretch;
-#[cfg(test)]
-mod tests;
 pub mod tie;

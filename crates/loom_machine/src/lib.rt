@@ -4,5 +4,3 @@
 pub mod laws;
 pub mod machine;
 mod reading;
-#[cfg(test)]
-mod tests;

@@ -143,6 +143,3 @@ fn same_rows(one: &[BitRow], other: &[BitRow]) -> bool
     }
     true
 }
-
-#[cfg(test)]
-mod tests;

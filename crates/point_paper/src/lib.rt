@@ -4,5 +4,3 @@
 pub mod bit_paper;
 pub mod laws;
 pub mod paper;
-#[cfg(test)]
-mod tests;

@@ -16,8 +16,6 @@ mod numbers;
 mod reading;
 pub mod session;
 mod shift_table;
-#[cfg(test)]
-mod tests;
 mod tie_table;
 mod trade_forms;
 mod trial;

@@ -14,5 +14,3 @@ pub mod prepared;
 mod spans;
 pub mod spelling;
 mod stamp;
-#[cfg(test)]
-mod tests;

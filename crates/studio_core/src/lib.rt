@@ -8,8 +8,6 @@ mod opening;
 pub mod refusal;
 mod rooms;
 mod settling;
-#[cfg(test)]
-mod tests;
 pub mod tile_core;
 mod touching;
 mod walking;

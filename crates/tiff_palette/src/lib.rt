@@ -24,6 +24,3 @@ pub use fault::TiffFault;
 pub use image::PaletteImage;
 pub use reading::read;
 pub use writing::write;
-
-#[cfg(test)]
-mod tests;

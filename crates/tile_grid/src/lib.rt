@@ -6,7 +6,5 @@ pub mod grid;
 mod kinds;
 pub mod laws;
 mod set_bits;
-#[cfg(test)]
-mod tests;
 mod walk;
 mod window;

@@ -4,5 +4,3 @@
 mod columns;
 pub mod laws;
 pub mod marks;
-#[cfg(test)]
-mod tests;

@@ -15,7 +15,5 @@ pub mod parts;
 pub mod rebuild;
 pub mod room;
 pub mod some_tiles;
-#[cfg(test)]
-mod tests;
 pub mod whole;
 mod whole_long;

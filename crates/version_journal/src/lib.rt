@@ -5,5 +5,3 @@ pub mod entry;
 pub mod journal;
 pub mod laws;
 pub mod run_log;
-#[cfg(test)]
-mod tests;

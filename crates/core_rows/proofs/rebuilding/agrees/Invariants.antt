@@ -1,0 +1,4 @@
+use Rattle.core_rows.proofs.rebuilding.agrees.Given as goal
+
+abbrev pub ghosts-agrees_with : goal.ghosts-agrees_with
+ghosts-agrees_with a = record { name = a.blank.name; parts = a.blank.parts }

@@ -1,4 +1,0 @@
-use Rattle.point_paper.proofs.tests.line.Given as goal
-
-abbrev pub ghosts-line_with : goal.ghosts-line_with
-ghosts-line_with a = record { name = a.blank.name; parts = a.blank.parts }

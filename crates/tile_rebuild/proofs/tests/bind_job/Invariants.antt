@@ -1,4 +1,0 @@
-use Rattle.tile_rebuild.proofs.tests.bind_job.Given as goal
-
-abbrev pub ghosts-bind_with : goal.ghosts-bind_with
-ghosts-bind_with a = record { name = a.blank.name; parts = a.blank.parts }

@@ -1,9 +1,0 @@
-use Rattle.std.proofs.Common.{◌≡◌, length}
-use Rattle.draft_model.specs.Designs.{IsBitsOf}
-use Rattle.tile_rebuild.proofs.tests.bound_by_jobs.Given as goal
-
-abbrev pub invariant-loop-tile : goal.invariant-loop-tile
-invariant-loop-tile l = record {
-  row : length l.row ≡ l.work.design.size.columns;
-  bits : IsBitsOf l.work.design l.bits;
-}
