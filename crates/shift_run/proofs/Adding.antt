@@ -18,12 +18,12 @@ use Rattle.version_journal.specs.declared.run_log.Repeat.{Repeat}
 use Rattle.version_journal.specs.declared.run_log.RunLog.{RunLog}
 use Rattle.session_file.specs.declared.session.Session.{Session}
 use Rattle.loom_threads.specs.Woven.{IsWoven}
-use Rattle.shift_run.specs.Plans.{plan_of}
-use Rattle.shift_run.specs.Logs.{AreBefore, HasNewest, IsCurrent, IsJournal, IsLoomLog, LegalBefore, Merge, accepted_before, entries_of_shift, named_act}
+use Rattle.shift_model.specs.Plans.{plan_of}
+use Rattle.shift_model.specs.Logs.{AreBefore, HasNewest, IsCurrent, IsJournal, IsLoomLog, LegalBefore, Merge, accepted_before, entries_of_shift, named_act}
 use Rattle.shift_run.specs.inner.Adds.{AddsEntries, AddsRepeats, AddsShift}
 use Rattle.shift_run.specs.inner.Laws.{VersionsCount, VersionsStay}
 use Rattle.shift_run.proofs.JournalLaws.{versions_grow}
-use Rattle.shift_run.proofs.Lists.{All_mono, All_tail, All_unmap, count_all, count_none, filter_all, filter_none, is_of, kept, not_of, rises}
+use Rattle.shift_model.proofs.lemmas.Lists.{All_mono, All_tail, All_unmap, count_all, count_none, filter_all, filter_none, is_of, kept, not_of, rises}
 
 abbrev pub named_acts : Session → List Entry → List ActWithMotif
 named_acts session entries = map (named_act session) entries

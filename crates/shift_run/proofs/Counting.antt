@@ -13,7 +13,7 @@ use Rattle.version_journal.specs.declared.entry.Entry.{Entry}
 use Rattle.version_journal.specs.declared.entry.Reply.{Reply}
 use Rattle.session_file.specs.declared.session.ShiftPlan.{ShiftPlan}
 use Rattle.studio_core.specs.Cores.{entry_by}
-use Rattle.shift_run.specs.Logs.{numbers_of_painter}
+use Rattle.shift_model.specs.Logs.{numbers_of_painter}
 use Rattle.shift_run.specs.Desks.{IsUnder}
 
 range_suc : (a n : ℕ) → range_with_len a (suc n) ≡ range_with_len a n ++ (a + n) ∷ []

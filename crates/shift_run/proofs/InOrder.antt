@@ -9,8 +9,8 @@ use Rattle.version_journal.specs.declared.entry.Entry.{Entry}
 use Rattle.session_file.specs.Plans.{acts_in, acts_of_plan, plain_acts}
 use Rattle.session_file.specs.declared.session.Session.{Session}
 use Rattle.session_file.specs.declared.session.ShiftPlan.{ShiftPlan}
-use Rattle.shift_run.specs.Logs.{named_act}
-use Rattle.shift_run.specs.Plans.{IsNewest, plain_order, plain_versions, plan_of}
+use Rattle.shift_model.specs.Logs.{named_act}
+use Rattle.shift_model.specs.Plans.{IsNewest, plain_order, plain_versions, plan_of}
 use Rattle.shift_run.specs.inner.Slots.{AddsSlots, Slot, plan_slots, slot_of}
 use Rattle.shift_run.specs.inner.Unread.{AreDone, Does}
 use Rattle.shift_run.specs.declared.unread.Unread.{Unread}

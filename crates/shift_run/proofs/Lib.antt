@@ -3,7 +3,6 @@ mod Counting
 mod Doing
 mod InOrder
 mod JournalLaws
-mod Lists
 mod OneThread
 mod Plain
 mod Published
@@ -14,10 +13,6 @@ mod Shown
 mod Single
 mod Slots
 mod Starts
-mod Steps
-mod StepsLegal
-mod StepsLooms
-mod StepsWorked
 mod Telling
 mod Versions
 mod Weaving

@@ -15,8 +15,8 @@ use Rattle.shed_publish.specs.Versions.{IsPrefix}
 use Rattle.shed_publish.specs.declared.newest.Version.{Version}
 use Rattle.loom_threads.specs.Looms.{IsShown, LoomValue}
 use Rattle.shift_run.specs.Desks.{Stands, versions_of}
-use Rattle.shift_run.specs.Logs.{IsLoomLog, accepted_before, named_act}
-use Rattle.shift_run.specs.Plans.{plan_of}
+use Rattle.shift_model.specs.Logs.{IsLoomLog, accepted_before, named_act}
+use Rattle.shift_model.specs.Plans.{plan_of}
 use Rattle.shift_run.specs.Runs.{AreNewest, GoesOnFrom, IsAtShift, IsCutShort, log_of}
 use Rattle.shift_run.specs.inner.Adds.{AddsEntries}
 use Rattle.shift_run.specs.inner.Foreman.{Directs, IsBroken}

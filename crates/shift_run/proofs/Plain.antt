@@ -7,7 +7,7 @@ use Rattle.std.proofs.lemmas.List.{map-append}
 use Rattle.std.proofs.lemmas.List.FromFn.{map-range_with_len_more}
 use Rattle.version_journal.specs.declared.entry.Entry.{Entry}
 use Rattle.session_file.specs.declared.session.ShiftPlan.{ShiftPlan}
-use Rattle.shift_run.specs.Plans.{acts_of_painter}
+use Rattle.shift_model.specs.Plans.{acts_of_painter}
 use Rattle.shift_run.specs.inner.Slots.{AddsSlots, Slot, left_slots, painter_slots, plan_slots, slot_of, slots_from, slots_past}
 use Rattle.shift_run.proofs.Slots.{slots_taken}
 

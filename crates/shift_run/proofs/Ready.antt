@@ -24,8 +24,8 @@ use Rattle.shed_publish.specs.Versions.{IsPublished, IsRun}
 use Rattle.shed_publish.specs.declared.newest.Version.{Version}
 use Rattle.studio_core.specs.Cores.{CoreValue}
 use Rattle.studio_core.specs.Histories.{IsAt}
-use Rattle.shift_run.specs.Logs.{named_act}
-use Rattle.shift_run.specs.Plans.{acts_of_painter, plan_of}
+use Rattle.shift_model.specs.Logs.{named_act}
+use Rattle.shift_model.specs.Plans.{acts_of_painter, plan_of}
 use Rattle.shift_run.specs.Desks.{IsReady, Stands, history_of, new_core, new_list, numbered, versions_of}
 use Rattle.shift_run.specs.declared.desk.Desk.{Desk}
 use Rattle.shift_run.proofs.Published.{cards_for}

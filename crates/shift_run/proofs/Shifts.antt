@@ -26,8 +26,8 @@ use Rattle.loom_threads.specs.Lifts.{cloth_from}
 use Rattle.loom_threads.specs.Looms.{AreOf, IsLoomOf, IsShown, LoomValue, repeats_of, repeat_from}
 use Rattle.loom_threads.specs.Woven.{IsWoven, digest_of, lifted, repeat_of}
 use Rattle.shift_run.specs.Desks.{Holds, Stands, history_of, numbered, versions_of}
-use Rattle.shift_run.specs.Logs.{accepted_before, named_act}
-use Rattle.shift_run.specs.Plans.{plan_of}
+use Rattle.shift_model.specs.Logs.{accepted_before, named_act}
+use Rattle.shift_model.specs.Plans.{plan_of}
 use Rattle.shift_run.specs.Runs.{AddsSomeRepeats, GoesOnFrom, HaveRead, IsAtShift, IsCutShort, IsLoomAt, log_of, repeats_from}
 use Rattle.shift_run.specs.inner.Adds.{AddsEntries, AddsRepeats}
 use Rattle.shift_run.specs.inner.Foreman.{IsBroken, acts_of_shift}
@@ -36,7 +36,7 @@ use Rattle.shift_run.specs.declared.desk.Desk.{Desk}
 use Rattle.shift_run.specs.declared.looms.Part.{Part}
 use Rattle.shift_run.proofs.Adding.{accepted_kept, accepted_rises, entries_versions, journal_versions, legal_more, named_acts, versions_more}
 use Rattle.shift_run.specs.inner.Laws.{CardsLift, VersionsCount, VersionsStay}
-use Rattle.shift_run.proofs.Lists.{All_mono, All_unmap}
+use Rattle.shift_model.proofs.lemmas.Lists.{All_mono, All_unmap}
 use Rattle.shift_run.proofs.Shown.{numbered_append, numbered_length, paper_of, version_shown}
 use Rattle.shift_run.proofs.Weaving.{did_shift}
 

@@ -13,8 +13,8 @@ use Rattle.shed_publish.specs.declared.newest.Version.{Version}
 use Rattle.studio_core.specs.Cores.{IsCore}
 use Rattle.loom_threads.specs.Looms.{LoomValue}
 use Rattle.shift_run.specs.Desks.{AddsSome, Stands, versions_of}
-use Rattle.shift_run.specs.Logs.{IsCurrent, IsLoomLog, accepted_before}
-use Rattle.shift_run.specs.Plans.{plan_of}
+use Rattle.shift_model.specs.Logs.{IsCurrent, IsLoomLog, accepted_before}
+use Rattle.shift_model.specs.Plans.{plan_of}
 use Rattle.shift_run.specs.Runs.{AddsSomeRepeats, GoesOnFrom, IsAtShift, IsCutShort, log_of}
 use Rattle.shift_run.specs.inner.Adds.{AddsEntries, AddsRepeats}
 use Rattle.shift_run.specs.inner.Foreman.{Directs, IsBroken, acts_of_shift}
@@ -24,7 +24,7 @@ use Rattle.shift_run.specs.declared.desk.Desk.{Desk}
 use Rattle.shift_run.specs.declared.looms.Part.{Part}
 use Rattle.shift_run.proofs.Adding.{accepted_kept, accepted_rises, shifts_low}
 use Rattle.shift_run.specs.inner.Laws.{CardsLift, VersionsCount, VersionsStay}
-use Rattle.shift_run.proofs.Lists.{rises}
+use Rattle.shift_model.proofs.lemmas.Lists.{rises}
 use Rattle.shift_run.proofs.Telling.{can_finish_all}
 use Rattle.shift_run.proofs.Shifts.{HasGone, acts_gone, all_did_shift, all_older, broken_gone, first_is, have_read, log_goes_on, loom_adds, looms_are, repeats_at, shift_more, told_first, versions_now}
 

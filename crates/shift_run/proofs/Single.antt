@@ -16,10 +16,10 @@ use Rattle.version_journal.specs.declared.run_log.RunLog.{RunLog}
 use Rattle.session_file.specs.Plans.{acts_of_plan, plain_acts}
 use Rattle.session_file.specs.declared.session.Session.{Session}
 use Rattle.session_file.specs.declared.session.ShiftPlan.{ShiftPlan}
-use Rattle.shift_run.specs.Logs.{Legal, Merge, entries_of_shift, named_act, numbers_of_painter}
-use Rattle.shift_run.specs.Plans.{plain_order, plan_of}
+use Rattle.shift_model.specs.Logs.{Legal, Merge, entries_of_shift, named_act, numbers_of_painter}
+use Rattle.shift_model.specs.Plans.{plain_order, plan_of}
 use Rattle.shift_run.specs.inner.Slots.{painter_slots, plan_slots, slot_of, slots_from}
-use Rattle.shift_run.proofs.Lists.{All_mono, All_tail, All_unmap, filter_all, filter_none, is_of}
+use Rattle.shift_model.proofs.lemmas.Lists.{All_mono, All_tail, All_unmap, filter_all, filter_none, is_of}
 use Rattle.shift_run.proofs.Slots.{named_plan}
 
 abbrev below : ℕ → Entry → Bool

@@ -17,11 +17,11 @@ use Rattle.version_journal.specs.declared.entry.Entry.{Entry}
 use Rattle.session_file.specs.Plans.{acts_of_plan}
 use Rattle.session_file.specs.declared.session.Session.{Session}
 use Rattle.session_file.specs.declared.session.ShiftPlan.{ShiftPlan}
-use Rattle.shift_run.specs.Logs.{Merge, named_act, numbers_of_painter}
-use Rattle.shift_run.specs.Plans.{plan_of, acts_of_painter}
+use Rattle.shift_model.specs.Logs.{Merge, named_act, numbers_of_painter}
+use Rattle.shift_model.specs.Plans.{plan_of, acts_of_painter}
 use Rattle.shift_run.specs.inner.Adds.{AddsEntries}
 use Rattle.shift_run.specs.inner.Slots.{AddsSlots, Slot, painter_slots, plan_slots, slot_act, slot_of, slots_from}
-use Rattle.shift_run.proofs.Lists.{All_mono, All_unmap, filter_all, filter_none, is_of, map_twice, not_of}
+use Rattle.shift_model.proofs.lemmas.Lists.{All_mono, All_unmap, filter_all, filter_none, is_of, map_twice, not_of}
 
 slot : ℕ → ℕ → ℕ → Slot
 slot shift painter number = record { shift = shift; painter = painter; number = number }

@@ -15,8 +15,8 @@ use Rattle.shed_publish.specs.Ends.{DeskValue}
 use Rattle.studio_core.specs.Cores.{CoreValue, IsCore}
 use Rattle.loom_threads.specs.Looms.{IsLoomOf, LoomValue, repeats_of}
 use Rattle.shift_run.specs.Desks.{Stands, new_core}
-use Rattle.shift_run.specs.Logs.{IsJournal, IsLoomLog, Legal, LegalBefore, named_act}
-use Rattle.shift_run.specs.Plans.{IsNewest}
+use Rattle.shift_model.specs.Logs.{IsJournal, IsLoomLog, Legal, LegalBefore, named_act}
+use Rattle.shift_model.specs.Plans.{IsNewest}
 use Rattle.shift_run.specs.Runs.{AreCardsOfNewest, AreNew, IsAtShift, IsLoomAt, log_of}
 use Rattle.shift_run.specs.declared.desk.Desk.{Desk}
 use Rattle.shift_run.proofs.Shifts.{no_loom, repeats_at}

@@ -21,7 +21,7 @@ use Rattle.studio_core.specs.Cores.{IsCore}
 use Rattle.loom_threads.specs.Cuts.{machine_of}
 use Rattle.loom_threads.specs.Looms.{IsLoomOf, IsTold, Knows, LoomValue, repeats_of}
 use Rattle.shift_run.specs.Desks.{IsReady, Stands}
-use Rattle.shift_run.specs.Plans.{plan_of}
+use Rattle.shift_model.specs.Plans.{plan_of}
 use Rattle.shift_run.specs.Runs.{IsAtShift, IsLoomAt}
 use Rattle.shift_run.specs.inner.Laws.{OpeningFirst}
 use Rattle.shift_run.specs.inner.Looms.{AllCanFinish, AllCanWeave, AllDid, AllReadied, IsReadied, part_at}

@@ -21,7 +21,7 @@ use Rattle.shift_run.specs.Runs.{HasRead, RoseBy}
 use Rattle.shift_run.specs.inner.Looms.{CanFinish, DidFinish, DidPart, DidShift, DidTurns, Fills, HasMet, IsDeaf, IsReadied, Keeps, WasCut}
 use Rattle.shift_run.specs.declared.looms.Part.{Part}
 use Rattle.shift_run.proofs.Adding.{equal_rise}
-use Rattle.shift_run.proofs.Lists.{All_mono, kept, rises}
+use Rattle.shift_model.proofs.lemmas.Lists.{All_mono, kept, rises}
 
 -- an end that sees a list knows it
 pub knows_seen : (told : List Version) (loom : LoomValue) (e : Option EndValue) → loom.end ≡ e → is_some e ≡ true → option_map_or (λ (end : EndValue). end.list) e [] ≡ told → Knows told loom

@@ -17,7 +17,7 @@ use Rattle.shed_publish.specs.declared.newest.Version.{Version}
 use Rattle.card_image.specs.Sets.{cards_of}
 use Rattle.studio_core.specs.Cores.{CoreValue, entry_by}
 use Rattle.studio_core.specs.Histories.{IsAt}
-use Rattle.shift_run.specs.Plans.{acts_of_painter, plan_of}
+use Rattle.shift_model.specs.Plans.{acts_of_painter, plan_of}
 use Rattle.shift_run.specs.DeskActs.{Commits, GoesTo, IsLeft, IsUnanswered, IsUnshown, MakesNewest, act_of, list_after, reply_of}
 use Rattle.shift_run.specs.Desks.{IsDesk, IsReady, Stands, history_of, numbered, versions_of}
 use Rattle.shift_run.specs.inner.Adds.{AddsEntries}

@@ -16,8 +16,8 @@ use Rattle.tile_grid.specs.Tiles.{tiles}
 use Rattle.tile_rebuild.specs.Tiles.{grid_of}
 use Rattle.studio_core.specs.Cores.{CoreValue}
 use Rattle.studio_core.specs.Histories.{IsAt}
-use Rattle.shift_run.specs.Logs.{named_act, numbers_of_painter}
-use Rattle.shift_run.specs.Plans.{acts_of_painter, plan_of}
+use Rattle.shift_model.specs.Logs.{named_act, numbers_of_painter}
+use Rattle.shift_model.specs.Plans.{acts_of_painter, plan_of}
 use Rattle.shift_run.specs.declared.desk.Desk.{Desk}
 
 -- where the acts of these entries have come to

@@ -1,9 +1,5 @@
 pub mod DeskActs
 pub mod Desks
 pub mod Lent
-pub mod Logs
-pub mod Plans
 pub mod Runs
-pub mod Steps
-pub mod WorkedSteps
 pub mod inner

@@ -15,8 +15,8 @@ use Rattle.shed_publish.specs.Ends.{EndValue, new_end}
 use Rattle.loom_threads.specs.Looms.{IsLoomOf, LoomValue, missed_of, readings_of, repeats_of}
 use Rattle.loom_threads.specs.Woven.{IsWoven}
 use Rattle.shift_run.specs.Desks.{AddsSome, Holds, NearlyShown, Stands}
-use Rattle.shift_run.specs.Logs.{LegalBefore, accepted_before, named_act}
-use Rattle.shift_run.specs.Plans.{IsNewest, plan_of}
+use Rattle.shift_model.specs.Logs.{LegalBefore, accepted_before, named_act}
+use Rattle.shift_model.specs.Plans.{IsNewest, plan_of}
 use Rattle.shift_run.specs.declared.desk.Desk.{Desk}
 
 -- all that a desk and its looms did so far

@@ -3,8 +3,8 @@ ghost use Rattle.std.specs.Prelude.{◌≡◌, ◌+◌, ◌<◌, ◌≤◌, ◌+
 ghost use Rattle.std.specs.Vec.{vec_capacity};
 ghost use Rattle.version_journal.specs.Journals.{with_motifs};
 ghost use Rattle.session_file.specs.Plans.{Fits, acts_of_plan};
-ghost use Rattle.shift_run.specs.Logs.{named_act};
-ghost use Rattle.shift_run.specs.Plans.{plan_of as the_plan_of};
+ghost use Rattle.shift_model.specs.Logs.{named_act};
+ghost use Rattle.shift_model.specs.Plans.{plan_of as the_plan_of};
 ghost use Rattle.shift_run.specs.Runs.{AreNewest, GoesOnFrom, HaveRead, IsAtShift, IsCutShort, log_of};
 ghost use Rattle.shift_run.specs.inner.Looms.{AllCanWeave, AllDid};
 ghost use Rattle.shift_run.specs.inner.Shifts.{LeavesAlone};

@@ -4,7 +4,7 @@ ghost use Rattle.crossbeam_channel.specs.Claims.{IsSeatAt};
 ghost use Rattle.crossbeam_channel.specs.Ends.{receives_on};
 ghost use Rattle.session_file.specs.Plans.{Fits};
 ghost use Rattle.shift_run.specs.Desks.{IsReady};
-ghost use Rattle.shift_run.specs.Plans.{plan_of as the_plan_of, acts_of_painter};
+ghost use Rattle.shift_model.specs.Plans.{plan_of as the_plan_of, acts_of_painter};
 ghost use Rattle.shift_run.specs.inner.Foreman.{BreaksOff, CanWork, Directs, GoesOn, IsPrepared, act_at as the_act_at, acts_of_shift};
 ghost use Rattle.shift_run.specs.inner.Slots.{AddsSlots, left_slots, plan_slots, slots_past};
 

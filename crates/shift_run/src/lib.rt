@@ -11,6 +11,4 @@ mod mail;
 mod plans;
 pub mod run;
 pub mod shift;
-#[cfg(test)]
-mod tests;
 mod unread;

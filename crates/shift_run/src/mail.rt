@@ -3,7 +3,7 @@ ghost use Rattle.std.specs.Prelude.{◌≡◌, ◌<◌, ◌≤◌, IfOk, length}
 ghost use Rattle.crossbeam_channel.specs.Claims.{IsSeatAt};
 ghost use Rattle.crossbeam_channel.specs.Ends.{receives_on, sends_on};
 ghost use Rattle.session_file.specs.Plans.{Fits};
-ghost use Rattle.shift_run.specs.Plans.{plan_of as the_plan_of};
+ghost use Rattle.shift_model.specs.Plans.{plan_of as the_plan_of};
 
 use crate::plans::{act_at, acts_of, plan_of, prepare};
 use crossbeam_channel::protocol::{Free, Split};

@@ -2,7 +2,7 @@
 ghost use Rattle.std.specs.Prelude.{◌≡◌, ◌<◌, true, All, IfOk, length};
 ghost use Rattle.strokes.specs.Places.{IsThere, motif_of_act};
 ghost use Rattle.session_file.specs.Plans.{Fits};
-ghost use Rattle.shift_run.specs.Plans.{plan_of as the_plan_of, acts_of_painter};
+ghost use Rattle.shift_model.specs.Plans.{plan_of as the_plan_of, acts_of_painter};
 ghost use Rattle.shift_run.specs.inner.Foreman.{IsPrepared, act_at as the_act_at};
 
 use mill_base::memory::OutOfMemory;

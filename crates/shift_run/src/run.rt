@@ -7,8 +7,8 @@ ghost use Rattle.session_file.specs.Plans.{Fits};
 ghost use Rattle.studio_core.specs.Refusals.{IsStartRefusal};
 ghost use Rattle.loom_threads.specs.Looms.{IsLoomOf, LoomValue, repeats_of};
 ghost use Rattle.shift_run.specs.Desks.{Stands, new_core};
-ghost use Rattle.shift_run.specs.Logs.{Legal};
-ghost use Rattle.shift_run.specs.Plans.{IsNewest, plain_versions};
+ghost use Rattle.shift_model.specs.Logs.{Legal};
+ghost use Rattle.shift_model.specs.Plans.{IsNewest, plain_versions};
 ghost use Rattle.shift_run.specs.Runs.{AreCardsOfNewest, AreNew, IsAtShift, IsSeated};
 
 use crate::desk::Desk;

@@ -9,7 +9,7 @@ ghost use Rattle.session_file.specs.Plans.{Fits};
 ghost use Rattle.shed_publish.specs.Versions.{IsPublished};
 ghost use Rattle.studio_core.specs.Cores.{IsCore};
 ghost use Rattle.shift_run.specs.Desks.{IsReady};
-ghost use Rattle.shift_run.specs.Plans.{plan_of as the_plan_of};
+ghost use Rattle.shift_model.specs.Plans.{plan_of as the_plan_of};
 ghost use Rattle.shift_run.specs.Runs.{GoesOnFrom, HaveRead, IsAtShift, IsCutShort, log_of};
 ghost use Rattle.shift_run.specs.inner.Foreman.{Directs, acts_of_shift};
 ghost use Rattle.shift_run.specs.inner.Looms.{AllCanFinish, AllCanWeave, AllDid, AllFinished};

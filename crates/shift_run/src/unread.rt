@@ -6,7 +6,7 @@ ghost use Rattle.version_journal.specs.Journals.{History, committed, float_kept,
 ghost use Rattle.session_file.specs.Plans.{Fits};
 ghost use Rattle.studio_core.specs.Cores.{entry_by};
 ghost use Rattle.studio_core.specs.Refusals.{IsStartRefusal};
-ghost use Rattle.shift_run.specs.Plans.{acts_of_painter, plan_of as the_plan_of};
+ghost use Rattle.shift_model.specs.Plans.{acts_of_painter, plan_of as the_plan_of};
 ghost use Rattle.shift_run.specs.inner.Unread.{AreDone, CanDo, Does, IsAtUnread, newest_after};
 ghost use Rattle.shift_run.specs.inner.Slots.{painter_slots, plan_slots};
 

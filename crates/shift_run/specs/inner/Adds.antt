@@ -8,8 +8,8 @@ use Rattle.version_journal.specs.declared.run_log.Repeat.{Repeat}
 use Rattle.version_journal.specs.declared.run_log.RunLog.{RunLog}
 use Rattle.session_file.specs.declared.session.Session.{Session}
 use Rattle.loom_threads.specs.Woven.{IsWoven}
-use Rattle.shift_run.specs.Logs.{Merge, accepted_before, named_act}
-use Rattle.shift_run.specs.Plans.{plan_of}
+use Rattle.shift_model.specs.Logs.{Merge, accepted_before, named_act}
+use Rattle.shift_model.specs.Plans.{plan_of}
 
 -- the entries of a shift were added, which are a merge of its acts, and all replies are those of the acts in their order
 pub record AddsEntries (session : Session) (k : ℕ) (before after : List Entry) : Type 0 where

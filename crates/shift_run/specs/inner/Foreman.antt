@@ -8,7 +8,7 @@ use Rattle.version_journal.specs.declared.entry.Entry.{Entry}
 use Rattle.session_file.specs.Plans.{Fits}
 use Rattle.session_file.specs.declared.session.Session.{Session}
 use Rattle.shift_run.specs.Desks.{AddsSome, Holds, IsDesk, IsReady, IsUnder, NearlyShown, Stands}
-use Rattle.shift_run.specs.Plans.{acts_of_painter, plan_of}
+use Rattle.shift_model.specs.Plans.{acts_of_painter, plan_of}
 use Rattle.shift_run.specs.inner.Adds.{AddsEntries}
 use Rattle.shift_run.specs.declared.desk.Desk.{Desk}
 

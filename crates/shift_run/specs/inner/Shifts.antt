@@ -4,8 +4,8 @@ use Rattle.version_journal.specs.Journals.{with_motifs}
 use Rattle.session_file.specs.Plans.{acts_of_plan}
 use Rattle.session_file.specs.declared.session.Session.{Session}
 use Rattle.loom_threads.specs.Looms.{LoomValue}
-use Rattle.shift_run.specs.Logs.{named_act}
-use Rattle.shift_run.specs.Plans.{plan_of}
+use Rattle.shift_model.specs.Logs.{named_act}
+use Rattle.shift_model.specs.Plans.{plan_of}
 use Rattle.shift_run.specs.Runs.{AreNewest, GoesOnFrom, HaveRead, IsAtShift, IsCutShort, log_of}
 use Rattle.shift_run.specs.declared.desk.Desk.{Desk}
 

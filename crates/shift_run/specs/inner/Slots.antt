@@ -7,7 +7,7 @@ use Rattle.version_journal.specs.Journals.{ActWithMotif, with_motif}
 use Rattle.version_journal.specs.declared.entry.Entry.{Entry}
 use Rattle.session_file.specs.declared.session.Session.{Session}
 use Rattle.session_file.specs.declared.session.ShiftPlan.{ShiftPlan}
-use Rattle.shift_run.specs.Plans.{plan_of, acts_of_painter}
+use Rattle.shift_model.specs.Plans.{plan_of, acts_of_painter}
 
 -- the shift and the painter of an entry, and its number among the painter's acts of the shift
 pub record Slot : Type 0 where

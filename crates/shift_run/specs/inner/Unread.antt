@@ -9,7 +9,7 @@ use Rattle.session_file.specs.Plans.{acts_in, plain_acts}
 use Rattle.session_file.specs.declared.session.Session.{Session}
 use Rattle.studio_core.specs.Histories.{IsAt}
 use Rattle.shift_run.specs.Desks.{history_of}
-use Rattle.shift_run.specs.Logs.{named_act}
+use Rattle.shift_model.specs.Logs.{named_act}
 use Rattle.shift_run.specs.declared.unread.Unread.{Unread}
 use Rattle.shift_run.specs.inner.Slots.{AddsSlots, Slot}
 

@@ -1,6 +1,6 @@
 use Rattle.std.proofs.Common.{ℕ, List, refl, sym, subst, ◌∙◌}
 use Rattle.shed_publish.specs.declared.newest.Version.{Version}
-use Rattle.shift_run.specs.Plans.{plan_of}
+use Rattle.shift_model.specs.Plans.{plan_of}
 use Rattle.shift_run.specs.inner.Looms.{AllCanFinish, AllCanWeave, AllDid, AllFinished}
 use Rattle.shift_run.specs.inner.Shifts.{IsDoneAlone, LeavesAlone}
 use Rattle.shift_run.specs.declared.desk.Desk.{Desk}

@@ -1,6 +1,6 @@
 use Rattle.std.proofs.Common.{ℕ, List, ap, subst, ◌∙◌, length}
 use Rattle.std.specs.Prelude.{slice_index}
-use Rattle.shift_run.specs.Plans.{plan_of}
+use Rattle.shift_model.specs.Plans.{plan_of}
 use Rattle.shift_run.specs.inner.Slots.{AddsSlots, Slot}
 use Rattle.shift_run.proofs.Plain.{left_plan}
 use Rattle.shift_run.proofs.Counting.{nothing_at}

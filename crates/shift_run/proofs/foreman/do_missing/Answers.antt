@@ -1,7 +1,7 @@
 use Rattle.std.proofs.Common.{◌≡◌, ◌+◌, ◌<◌, ◌≤◌, ◌⊎◌, inl, inr, ℕ, length, sym, subst, ◌∙◌, add-one, arith}
 use Rattle.std.specs.Prelude.{slice_index}
 use Rattle.std.proofs.lemmas.Bool.{cases_lt}
-use Rattle.shift_run.specs.Plans.{acts_of_painter, plan_of}
+use Rattle.shift_model.specs.Plans.{acts_of_painter, plan_of}
 use Rattle.shift_run.specs.inner.Slots.{AddsSlots, left_slots, slots_past}
 use Rattle.shift_run.proofs.Plain.{adds_then}
 use Rattle.shift_run.proofs.Working.{breaks_then, goes_then}

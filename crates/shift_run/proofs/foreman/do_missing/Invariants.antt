@@ -1,6 +1,6 @@
 use Rattle.std.proofs.Common.{◌≡◌, ◌<◌, ◌≤◌, ℕ, length}
 use Rattle.std.specs.Prelude.{slice_index}
-use Rattle.shift_run.specs.Plans.{plan_of, acts_of_painter}
+use Rattle.shift_model.specs.Plans.{plan_of, acts_of_painter}
 use Rattle.shift_run.specs.inner.Foreman.{GoesOn}
 use Rattle.shift_run.specs.inner.Slots.{AddsSlots, left_slots}
 use Rattle.shift_run.proofs.foreman.do_missing.Given as goal

@@ -1,7 +1,7 @@
 use Rattle.std.proofs.Common.{ℕ, List, sym, subst, ◌∙◌}
 use Rattle.shed_publish.specs.Versions.{IsPublished}
 use Rattle.shed_publish.specs.declared.newest.Version.{Version}
-use Rattle.shift_run.specs.Plans.{plan_of}
+use Rattle.shift_model.specs.Plans.{plan_of}
 use Rattle.shift_run.specs.inner.Looms.{AllCanFinish, AllCanWeave, AllDid, AllFinished}
 use Rattle.shift_run.specs.inner.Shifts.{Leaves}
 use Rattle.shift_run.specs.declared.desk.Desk.{Desk}

@@ -1,7 +1,7 @@
 use Rattle.std.proofs.Common.{◌≡◌, ◌<◌, ◌≤◌, [], length, get_or, take, List, sym, ap, subst, arith}
 use Rattle.std.proofs.lemmas.List.Sums.{sum_by_more_le}
 use Rattle.session_file.specs.declared.session.ShiftPlan.{ShiftPlan}
-use Rattle.shift_run.specs.Plans.{plan_of}
+use Rattle.shift_model.specs.Plans.{plan_of}
 use Rattle.shift_run.specs.inner.Slots.{Slot, painter_slots, slots_from}
 use Rattle.shift_run.specs.inner.Unread.{Does}
 use Rattle.shift_run.proofs.InOrder.{does_then}

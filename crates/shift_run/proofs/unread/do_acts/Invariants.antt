@@ -1,5 +1,5 @@
 use Rattle.std.proofs.Common.{take}
-use Rattle.shift_run.specs.Plans.{plan_of}
+use Rattle.shift_model.specs.Plans.{plan_of}
 use Rattle.shift_run.specs.inner.Slots.{slots_from}
 use Rattle.shift_run.specs.inner.Unread.{CanDo, Does}
 use Rattle.shift_run.proofs.unread.do_acts.Given as goal

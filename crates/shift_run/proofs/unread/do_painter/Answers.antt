@@ -1,6 +1,6 @@
 use Rattle.std.proofs.Common.{◌≡◌, ◌+◌, ◌<◌, [], ◌∷◌, ◌∙◌, length, List, sym, ap, subst, arith}
 use Rattle.session_file.specs.declared.session.ShiftPlan.{ShiftPlan}
-use Rattle.shift_run.specs.Plans.{plan_of, acts_of_painter}
+use Rattle.shift_model.specs.Plans.{plan_of, acts_of_painter}
 use Rattle.shift_run.specs.inner.Slots.{Slot, painter_slots}
 use Rattle.shift_run.specs.inner.Unread.{Does}
 use Rattle.shift_run.proofs.InOrder.{does_then}

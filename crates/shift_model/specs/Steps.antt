@@ -16,8 +16,8 @@ use Rattle.version_journal.specs.declared.run_log.Repeat.{Repeat}
 use Rattle.version_journal.specs.declared.run_log.RunLog.{RunLog}
 use Rattle.session_file.specs.declared.session.Session.{Session}
 use Rattle.loom_threads.specs.Woven.{repeat_of}
-use Rattle.shift_run.specs.Logs.{Merge, entries_of_shift, named_act}
-use Rattle.shift_run.specs.Plans.{plan_of}
+use Rattle.shift_model.specs.Logs.{Merge, entries_of_shift, named_act}
+use Rattle.shift_model.specs.Plans.{plan_of}
 
 -- An act is done: it paints, or is a commit. A result is made from the lines of a tile. A result is offered, by its place among all. The
 -- next version is published. A loom begins a repeat of a version. A loom lifts the next pick of its repeat. A shift ends.

@@ -4,10 +4,10 @@ use Rattle.point_paper.specs.Papers.{PaperCells}
 use Rattle.draft_model.specs.Drawdowns.{bound}
 use Rattle.draft_model.specs.Floats.{keeps}
 use Rattle.version_journal.specs.Journals.{ActWithMotif, History, IsActOf, replies, versions}
-use Rattle.shift_run.specs.Steps.{after_events}
-use Rattle.shift_run.proofs.Steps.{acts_are, reached}
-use Rattle.shift_run.proofs.StepsLegal.{current, drawn, legal}
-use Rattle.shift_run.proofs.laws.every_interleaving_weaves_drawdowns.Goals as goal
+use Rattle.shift_model.specs.Steps.{after_events}
+use Rattle.shift_model.proofs.Steps.{acts_are, reached}
+use Rattle.shift_model.proofs.StepsLegal.{current, drawn, legal}
+use Rattle.shift_model.proofs.laws.every_interleaving_weaves_drawdowns.Goals as goal
 
 pub returns-clause-acts : goal.returns-clause-acts
 returns-clause-acts c = acts_are

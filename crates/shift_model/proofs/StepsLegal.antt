@@ -29,12 +29,12 @@ use Rattle.session_file.specs.Plans.{Fits as FitsSession, FitsPlan}
 use Rattle.session_file.specs.declared.session.Session.{Session}
 use Rattle.session_file.specs.declared.session.ShiftPlan.{ShiftPlan}
 use Rattle.loom_threads.specs.Woven.{IsWoven, digest_of, lifted_rows}
-use Rattle.shift_run.specs.Plans.{acts_of_painter, plan_of}
-use Rattle.shift_run.specs.Logs.{IsCurrent, IsJournal, IsLoomLog, Legal, accepted_before, named_act}
-use Rattle.shift_run.specs.Steps.{HasRun, IsDrawdown, IsInShift, IsOfItsShift, LoomState, Weaving, World, accepted_at, begun_on, idle, log_of_world, logged, loom_at, row_of, and_unfinished}
-use Rattle.shift_run.proofs.Lists.{All_mono, count_none, map_twice}
-use Rattle.shift_run.proofs.Steps.{IsReached}
-use Rattle.shift_run.proofs.StepsLooms.{IsBegun, IsLoom}
+use Rattle.shift_model.specs.Plans.{acts_of_painter, plan_of}
+use Rattle.shift_model.specs.Logs.{IsCurrent, IsJournal, IsLoomLog, Legal, accepted_before, named_act}
+use Rattle.shift_model.specs.Steps.{HasRun, IsDrawdown, IsInShift, IsOfItsShift, LoomState, Weaving, World, accepted_at, begun_on, idle, log_of_world, logged, loom_at, row_of, and_unfinished}
+use Rattle.shift_model.proofs.lemmas.Lists.{All_mono, count_none, map_twice}
+use Rattle.shift_model.proofs.Steps.{IsReached}
+use Rattle.shift_model.proofs.StepsLooms.{IsBegun, IsLoom}
 
 -- the laws, as they are handed in
 abbrev pub VersionsFit : Type 0

@@ -12,7 +12,7 @@ use Rattle.version_journal.specs.declared.run_log.RunLog.{RunLog}
 use Rattle.session_file.specs.declared.session.Session.{Session}
 use Rattle.session_file.specs.declared.session.ShiftPlan.{ShiftPlan}
 use Rattle.loom_threads.specs.Woven.{IsWoven}
-use Rattle.shift_run.specs.Plans.{plan_of, acts_of_painter}
+use Rattle.shift_model.specs.Plans.{plan_of, acts_of_painter}
 
 -- the act that an entry names, with the cells of its motif: its number counts the painter's acts of that shift from 1
 abbrev pub named_act : Session → Entry → ActWithMotif

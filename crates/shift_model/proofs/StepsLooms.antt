@@ -15,8 +15,8 @@ use Rattle.point_paper.specs.Papers.{PaperCells}
 use Rattle.draft_model.specs.declared.design.Design.{Design}
 use Rattle.version_journal.specs.Entries.{is_accepted}
 use Rattle.version_journal.specs.declared.entry.Reply.{Reply}
-use Rattle.shift_run.specs.Steps.{LoomState, Weaving, and_unfinished, begun_on, is_whole, may_begin, row_of, with_pick, with_repeat, with_row}
-use Rattle.shift_run.proofs.Lists.{All_mono, rises}
+use Rattle.shift_model.specs.Steps.{LoomState, Weaving, and_unfinished, begun_on, is_whole, may_begin, row_of, with_pick, with_repeat, with_row}
+use Rattle.shift_model.proofs.lemmas.Lists.{All_mono, rises}
 
 -- how many replies of the acts before a shift accept a commit
 abbrev pub accepted_by : List Reply → List ℕ → ℕ → ℕ → ℕ

@@ -12,10 +12,10 @@ use Rattle.version_journal.specs.declared.entry.Reply.{Reply}
 use Rattle.version_journal.specs.declared.entry.Reply.TheVariants.{Accepted}
 use Rattle.session_file.specs.declared.session.Session.{Session}
 use Rattle.session_file.specs.declared.session.ShiftPlan.{ShiftPlan}
-use Rattle.shift_run.specs.Logs.{Merge, entries_of_shift, numbers_of_painter}
-use Rattle.shift_run.specs.Plans.{acts_of_painter, plan_of}
-use Rattle.shift_run.specs.Steps.{HasRun, IsInShift, loom_at, Event, Do, Take, Give, Publish, Begin, Pick, Cut, LoomState, Weaving, World, after_events, beginning, idle, is_whole, row_of, stepped}
-use Rattle.shift_run.specs.WorkedSteps.{a_commit, worked_entries, worked_events, worked_plan, worked_world}
+use Rattle.shift_model.specs.Logs.{Merge, entries_of_shift, numbers_of_painter}
+use Rattle.shift_model.specs.Plans.{acts_of_painter, plan_of}
+use Rattle.shift_model.specs.Steps.{HasRun, IsInShift, loom_at, Event, Do, Take, Give, Publish, Begin, Pick, Cut, LoomState, Weaving, World, after_events, beginning, idle, is_whole, row_of, stepped}
+use Rattle.shift_model.specs.WorkedSteps.{a_commit, worked_entries, worked_events, worked_plan, worked_world}
 
 -- a world of one loom, on whose way each act was an accepted commit
 abbrev stage : PaperCells → List ActWithMotif → List Reply → List PaperCells → ℕ → LoomState → List ℕ → World

@@ -17,9 +17,9 @@ use Rattle.version_journal.specs.Entries.{is_accepted}
 use Rattle.version_journal.specs.Journals.{ActWithMotif, History, begun, committed, float_kept, history, is_commit, painted, reply_to_commit, step, versions_after}
 use Rattle.version_journal.specs.declared.entry.Reply.{Reply}
 use Rattle.version_journal.specs.declared.entry.Reply.TheVariants.{Painted, Accepted, Refused}
-use Rattle.shift_run.specs.Steps.{Event, Do, Take, Give, Publish, Begin, Pick, Cut, LoomState, Weaving, World, accepted, accepted_at, acts_in, acts_of, after_events, beginning, idle, loom_at, may_begin, may_cut, may_publish, raised, stepped, with_cut, with_loom, with_pick, with_repeat}
-use Rattle.shift_run.proofs.Lists.{All_mono, kept}
-use Rattle.shift_run.proofs.StepsLooms.{IsBegun, IsLoom, accepted_by, all_of, begins, grows, loom_later, nothing, picks, push_rises, read_default, stays}
+use Rattle.shift_model.specs.Steps.{Event, Do, Take, Give, Publish, Begin, Pick, Cut, LoomState, Weaving, World, accepted, accepted_at, acts_in, acts_of, after_events, beginning, idle, loom_at, may_begin, may_cut, may_publish, raised, stepped, with_cut, with_loom, with_pick, with_repeat}
+use Rattle.shift_model.proofs.lemmas.Lists.{All_mono, kept}
+use Rattle.shift_model.proofs.StepsLooms.{IsBegun, IsLoom, accepted_by, all_of, begins, grows, loom_later, nothing, picks, push_rises, read_default, stays}
 
 -- what every world is that events lead to
 pub record IsReached (design : Design) (opening : PaperCells) (faces : List Face) (world : World) : Type 0 where

@@ -9,7 +9,7 @@ use Rattle.version_journal.specs.Journals.{ActWithMotif}
 use Rattle.version_journal.specs.declared.entry.Entry.{Entry}
 use Rattle.version_journal.specs.declared.entry.Reply.TheVariants.{Accepted}
 use Rattle.session_file.specs.declared.session.ShiftPlan.{ShiftPlan}
-use Rattle.shift_run.specs.Steps.{Event, Do, Take, Give, Publish, Begin, Pick, Cut, World, row_of}
+use Rattle.shift_model.specs.Steps.{Event, Do, Take, Give, Publish, Begin, Pick, Cut, World, row_of}
 
 abbrev pub a_commit : ActWithMotif
 a_commit = record { act = Commit; motif = no_motif }

@@ -1,5 +1,5 @@
-use Rattle.shift_run.proofs.StepsWorked.{worked, worked_run}
-use Rattle.shift_run.proofs.laws.events_run_a_session_of_two_shifts.Goals as goal
+use Rattle.shift_model.proofs.StepsWorked.{worked, worked_run}
+use Rattle.shift_model.proofs.laws.events_run_a_session_of_two_shifts.Goals as goal
 
 pub returns-clause-world : goal.returns-clause-world
 returns-clause-world c = worked

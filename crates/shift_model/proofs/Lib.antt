@@ -1,0 +1,5 @@
+pub mod lemmas
+mod Steps
+mod StepsLegal
+mod StepsLooms
+mod StepsWorked

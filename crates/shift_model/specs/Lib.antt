@@ -1,0 +1,4 @@
+pub mod Logs
+pub mod Plans
+pub mod Steps
+pub mod WorkedSteps
