@@ -116,6 +116,3 @@ fn stay(watch: &Watch) {
     };
     ended.store(1, SeqCst);
 }
-
-#[cfg(test)]
-mod tests;

@@ -3,19 +3,21 @@
 
 pub mod faults;
 pub mod file_shelf;
-mod file_write;
+pub mod file_write;
 pub mod gate;
 pub mod held_gate;
 pub mod laws;
+mod line_room;
 pub mod memory_shelf;
 pub mod memory_sink;
+pub mod names;
+pub mod open_file;
 pub mod output_sink;
 pub mod phrases;
 pub mod pieces;
+pub mod program;
 mod room;
 pub mod shelf;
 pub mod sink;
 pub mod sure_shelf;
 pub mod sure_sink;
-#[cfg(test)]
-mod tests;

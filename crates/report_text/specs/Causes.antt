@@ -1,10 +1,11 @@
 -- Why the studio ends: the status of each cause, and its line on standard error. The statuses and the words are this project's own.
 use Rattle.std.specs.Prelude.{ℕ, codes, List, [], ◌++◌}
 use Rattle.mill_base.specs.Texts.{memory_text}
+use Rattle.mill_io.specs.Names.{shown_name}
 use Rattle.mill_io.specs.Texts.{failed_text}
 use Rattle.draft_model.specs.Texts.{float_text}
 use Rattle.card_image.specs.Texts.{chain_text}
-use Rattle.session_rules.specs.Texts.{fault_text, kind_text}
+use Rattle.session_rules.specs.Texts.{kind_text}
 use Rattle.session_rules.specs.declared.fault.SessionFault.{SessionFault}
 use Rattle.session_rules.specs.declared.fault.SessionFaultKind.{SessionFaultKind}
 use Rattle.session_rules.specs.declared.fault.SessionFaultKind.TheVariants.{NotToml}
@@ -25,30 +26,39 @@ status_of WriteFault = 6
 status_of (TooLong name) = 7
 status_of (Chain fault) = 8
 
--- `session PATH: TEXT`; bytes that are no TOML document have no path
-abbrev pub told_fault : SessionFaultKind → SessionFault → List ℕ
-told_fault NotToml fault = codes "session: " ++ kind_text fault.kind
-told_fault _ fault = codes "session " ++ fault_text fault
+-- a name that is told as it is
+abbrev pub as_is : List ℕ → List ℕ
+as_is name = name
 
-abbrev pub session_text : SessionFault → List ℕ
-session_text fault = told_fault fault.kind fault
+-- `session PATH: TEXT`, the path told in its way; bytes that are no TOML document have no path
+abbrev pub told_fault : (List ℕ → List ℕ) → SessionFaultKind → SessionFault → List ℕ
+told_fault told NotToml fault = codes "session: " ++ kind_text fault.kind
+told_fault told _ fault = codes "session " ++ told fault.path ++ codes ": " ++ kind_text fault.kind
 
--- the words of a cause; where all was done there are none
+abbrev pub session_text : (List ℕ → List ℕ) → SessionFault → List ℕ
+session_text told fault = told_fault told fault.kind fault
+
+-- the words of a cause, names told in their way; where all was done there are none
+abbrev pub words_of_cause : (List ℕ → List ℕ) → Cause → List ℕ
+words_of_cause told Done = []
+words_of_cause told Usage = codes "usage: weave SESSION, check SESSION, draw SESSION OUT, paper SESSION OUT, cards SESSION OUT, cards SESSION OUT down, lift SESSION CHAIN OUT, trial N"
+words_of_cause told (Session fault) = session_text told fault
+words_of_cause told (OpeningFloat run) = codes "opening " ++ float_text run
+words_of_cause told OutOfMemory = memory_text (record {})
+words_of_cause told (ReadFault name) = codes "cannot read " ++ told name
+words_of_cause told WriteFault = failed_text (record {})
+words_of_cause told (TooLong name) = codes "too long: " ++ told name
+words_of_cause told (Chain fault) = codes "chain: " ++ chain_text fault
+
+-- the words of a cause
 abbrev pub cause_text : Cause → List ℕ
-cause_text Done = []
-cause_text Usage = codes "usage: weave SESSION, check SESSION, draw SESSION OUT, paper SESSION OUT, cards SESSION OUT, cards SESSION OUT down, lift SESSION CHAIN OUT, trial N"
-cause_text (Session fault) = session_text fault
-cause_text (OpeningFloat run) = codes "opening " ++ float_text run
-cause_text OutOfMemory = memory_text (record {})
-cause_text (ReadFault name) = codes "cannot read " ++ name
-cause_text WriteFault = failed_text (record {})
-cause_text (TooLong name) = codes "too long: " ++ name
-cause_text (Chain fault) = codes "chain: " ++ chain_text fault
+cause_text cause = words_of_cause as_is cause
 
--- the line of a cause: `studio: `, its words and a line feed; where all was done there is none
+-- the line of a cause: `studio: `, its words, in which the control characters of names are escaped, and a line feed; where all was done there
+-- is none
 abbrev pub line : Cause → List ℕ
 line Done = []
-line cause = codes "studio: " ++ cause_text cause ++ codes "\n"
+line cause = codes "studio: " ++ words_of_cause shown_name cause ++ codes "\n"
 
 -- the cause that the refusal of a session is
 abbrev pub cause_of : SessionRefusal → Cause

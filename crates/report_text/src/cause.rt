@@ -1,7 +1,8 @@
 //! Why the studio ends.
 ghost use Rattle.std.specs.Prelude.{◌≡◌, codes, ◌++◌, Some};
 ghost use Rattle.session_rules.specs.Texts.{lead_text};
-ghost use Rattle.report_text.specs.Causes.{cause_of, cause_text, session_text, status_of};
+ghost use Rattle.mill_io.specs.Names.{shown_name};
+ghost use Rattle.report_text.specs.Causes.{as_is, cause_of, cause_text, session_text, status_of, words_of_cause};
 ghost use Rattle.report_text.specs.inner.Tellings.{words_of};
 
 use crate::telling::Telling;
@@ -59,8 +60,10 @@ impl Cause {
     }
 
     // Its words in parts.
+    #[tactic(auto, using(mill_io::proofs::lemmas::Shown::shown_nil))]
     pub(crate) fn telling(&self) -> Telling<'_>
-        ensures { words_of result ≡ cause_text self.now }
+        ensures words { words_of as_is result ≡ cause_text self.now }
+        ensures told { words_of shown_name result ≡ words_of_cause shown_name self.now }
     {
         match self {
             Cause::Done => Telling::named("", ""),
@@ -77,7 +80,8 @@ impl Cause {
 }
 
 fn telling_of_fault(fault: &SessionFault) -> Telling<'_>
-    ensures { words_of result ≡ session_text fault.now }
+    ensures words { words_of as_is result ≡ session_text as_is fault.now }
+    ensures told { words_of shown_name result ≡ session_text shown_name fault.now }
 {
     match fault.kind {
         SessionFaultKind::NotToml => Telling::worded("session: ", fault.kind.phrase()),

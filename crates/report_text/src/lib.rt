@@ -8,5 +8,3 @@ mod growing;
 pub mod report;
 pub mod summary;
 mod telling;
-#[cfg(test)]
-mod tests;

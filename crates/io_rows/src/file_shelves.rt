@@ -1,9 +1,14 @@
 //! What stands on the disk behind a call. Each test has a folder or a name of its own.
-use crate::file_shelf::FileShelf;
-use crate::shelf::{Shelf, ShelfRefusal};
+use mill_base::limits::MAX_FILE_BYTES;
+use mill_io::file_shelf::FileShelf;
+use mill_io::shelf::{Shelf, ShelfRefusal};
 use std::fs;
+use std::fs::{File, OpenOptions};
+use std::io::Write;
 use std::os::unix::fs::{PermissionsExt, symlink};
+use std::os::unix::io::AsRawFd;
 use std::path::Path;
+use std::test::Fail;
 
 // What the file holds, or nothing where it cannot be read.
 fn content(rt: HostRuntime, name: &str) -> Vec<u8> {
@@ -37,14 +42,14 @@ fn a_file_is_made_and_replaced_and_nothing_is_left_beside(rt: HostRuntime) {
     let replaced = shelf.write(name, b"twill 2 2 right").is_ok();
     let found = content(rt, name);
     let mode = fs::metadata(&rt, name).map_or(0, |found| found.permissions().mode() & 0o777);
-    let beside = Path::new("mill_io_replaces/.studio-0.part").exists(&rt);
-    let removed = fs::remove_dir_all(&rt, "mill_io_replaces").is_ok();
+    let removed = fs::remove_file(&rt, name).is_ok()
+        && fs::remove_dir(&rt, "mill_io_replaces").is_ok();
     assert_eq!(rt;
         (folder, made, private, replaced, removed),
         (true, true, true, true, true)
     );
     assert_eq!(rt; found.as_slice(), b"twill 2 2 right".as_slice());
-    assert_eq!(rt; (mode, beside), (0o600, false));
+    assert_eq!(rt; mode, 0o600);
 }
 
 #[test]
@@ -86,8 +91,7 @@ fn a_write_fails_where_no_file_can_stand(rt: HostRuntime) {
         assert_eq!(rt; shelf.write(name, b"plain").is_ok(), false, "{name}");
     }
     let removed = fs::remove_dir(&rt, "mill_io_refuses").is_ok();
-    let beside = Path::new(".studio-0.part").exists(&rt);
-    assert_eq!(rt; (made, removed, beside), (true, true, false));
+    assert_eq!(rt; (made, removed), (true, true));
 }
 
 #[test]
@@ -102,4 +106,61 @@ fn a_device_is_written_in_place(rt: HostRuntime) {
             assert_eq!(rt; found, (takes, false), "{name}");
         }
     }
+}
+
+// An open file by a name of each kind, which leads to it at once or by a link.
+#[test]
+fn what_stands_in_an_open_file_stays_before_the_bytes(rt: HostRuntime) -> Result<(), Fail> {
+    let log = "mill_io_opens/log";
+    let made = fs::create_dir_all(&rt, "mill_io_opens").is_ok();
+    let mut file = File::create(&rt, log)?;
+    file.write_all(b"head ")?;
+    let number = file.as_raw_fd();
+    let mut shelf = FileShelf::new(rt);
+    for folder in ["/proc/self/fd", "/dev/fd", "/proc/thread-self/fd"] {
+        let name = format!(in rt.alloc(); "{folder}/{number}")?;
+        assert_eq!(rt;
+            shelf.write(name.as_str(), b"plain ").is_ok(),
+            true,
+            "{folder}"
+        );
+    }
+    let name = format!(in rt.alloc(); "/dev/fd/{number}")?;
+    let linked = symlink(&rt, name.as_str(), "mill_io_opens/link").is_ok()
+        && symlink(&rt, "link", "mill_io_opens/further").is_ok()
+        && shelf.write("mill_io_opens/further", b"twill").is_ok();
+    let found = content(rt, log);
+    let entry = Path::new("mill_io_opens/further").is_symlink(&rt);
+    let removed = fs::remove_dir_all(&rt, "mill_io_opens").is_ok();
+    assert_eq!(rt; (made, linked, entry, removed), (true, true, true, true));
+    assert_eq!(rt;
+        found.as_slice(),
+        b"head plain plain plain twill".as_slice()
+    );
+    Ok(())
+}
+
+// One byte more than the system reads at once, and the most that the studio reads and writes.
+#[test]
+fn files_of_any_length_are_written_and_read_whole(rt: HostRuntime) -> Result<(), Fail> {
+    let name = "mill_io_lengths";
+    let mut shelf = FileShelf::new(rt);
+    for length in [0, 4_095, 4_096, 4_097, MAX_FILE_BYTES as usize] {
+        let mut bytes = Vec::from_elem(rt.alloc(), b'x', length)?;
+        if let Some(last) = bytes.last_mut() {
+            *last = b'.';
+        }
+        let written = shelf.write(name, &bytes).is_ok();
+        let read = shelf.read(rt.alloc(), name, MAX_FILE_BYTES)?;
+        let ends = (read.last().copied(), bytes.last().copied());
+        assert_eq!(rt; (written, read.len()), (true, length), "{length} bytes");
+        assert_eq!(rt; ends.0, ends.1, "{length} bytes");
+    }
+    // A longer one is refused, whatever its length.
+    let mut longer = OpenOptions::new().append(true).open(&rt, name)?;
+    longer.write_all(b"!")?;
+    let refused = shelf.read(rt.alloc(), name, MAX_FILE_BYTES).err();
+    let removed = fs::remove_file(&rt, name).is_ok();
+    assert_eq!(rt; (refused, removed), (Some(ShelfRefusal::TooLong), true));
+    Ok(())
 }

@@ -1,6 +1,6 @@
 //! Callers are let go by the point, or once their turns are over.
-use crate::gate::{Gate, Point};
-use crate::held_gate::{HeldGate, Hold, HoldEnd};
+use mill_io::gate::{Gate, Point};
+use mill_io::held_gate::{HeldGate, Hold, HoldEnd};
 use std::test::Fail;
 use std::thread::join;
 
