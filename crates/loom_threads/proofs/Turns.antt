@@ -1,14 +1,16 @@
 -- One reading and its repeat.
 use Rattle.std.proofs.Common.{◌≡◌, ◌+◌, ◌-◌, ◌^◌, ◌≤◌, ℕ, List, [], ◌∷◌, ◌++◌, length, length-append, Option, Some, None, IfSome, inl, inr, refl, sym, ap, subst, ◌∙◌, arith}
-use Rattle.std.specs.Prelude.{OnSome, slice_get}
+use Rattle.std.specs.Prelude.{IsSomeAnd, OnSome, slice_get}
 use Rattle.std.proofs.lemmas.Option.{same_Some}
 use Rattle.mill_base.specs.Causes.{risen}
 use Rattle.card_image.specs.Sets.{CardDesign, CardsValue, design_by}
+use Rattle.version_journal.specs.declared.run_log.Repeat.{Repeat}
 use Rattle.shed_publish.specs.declared.newest.Version.{Version}
 use Rattle.shed_publish.specs.Ends.{EndValue, EndsWith, Knows as EndKnows}
 use Rattle.shed_publish.specs.Versions.{IsPrefix, IsPublished}
 use Rattle.shed_publish.proofs.lemmas.Published.{alike}
-use Rattle.loom_threads.specs.Looms.{IsTold, Knows, LoomValue, Wove, list_of, missed_of, readings_of, repeat_from}
+use Rattle.loom_threads.specs.Looms.{EndWithNewest, IsTold, Knows, LoomValue, Wove, list_of, missed_of, readings_of, repeat_from}
+use Rattle.loom_threads.proofs.Repeats.{last_item}
 use Rattle.loom_threads.proofs.lemmas.Joined.{kept}
 use Rattle.loom_threads.proofs.lemmas.Parts.{are_one, last_is}
 
@@ -70,3 +72,12 @@ wove_one shift before read after v same added room later knows told published en
       no_more = omega (arith, rose);
       missed = omega (arith, missed);
     })
+
+-- the repeat of a reading is of the last entry of the list that it saw
+pub newest_one : (shift : ℕ) (read after : LoomValue) (v : Version) → after ≡ record read { repeats = read.repeats ++ repeat_from read shift v.version v.cards ∷ []; spare = read.spare - 1 }
+    → IsPublished (list_of read) → EndsWith (list_of read) v → EndWithNewest after
+newest_one shift read after v added published ends =
+    let woven = repeat_from read shift v.version v.cards in
+    let last = last_is (list_of read) v published ends in
+    subst EndWithNewest (sym added)
+    (subst (λ (o : Option Repeat). IsSomeAnd o (λ (r : Repeat). r.version + 1 ≡ length (list_of read))) (sym (last_item read.repeats woven)) last.0)

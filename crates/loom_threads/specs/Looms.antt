@@ -1,5 +1,5 @@
 -- What contracts see of a loom, and what its part of a shift leaves.
-use Rattle.std.specs.Prelude.{◌≡◌, ℕ, ◌+◌, ◌-◌, ◌^◌, ◌≤◌, Bool, List, [], ◌++◌, length, map, min, sum_by, slice_get, slice_index, slice_index_or, Option, Some, None, All, ◌⊎◌}
+use Rattle.std.specs.Prelude.{◌≡◌, ℕ, ◌+◌, ◌-◌, ◌^◌, ◌≤◌, Bool, List, [], ◌++◌, length, map, min, sum_by, slice_get, IsSomeAnd, slice_index, slice_index_or, Option, Some, None, All, ◌⊎◌}
 use Rattle.std.specs.List.Sorted.{IsNonDecreasing}
 use Rattle.std.specs.Option.{option_map_or}
 use Rattle.mill_base.specs.Causes.{Rose}
@@ -8,7 +8,7 @@ use Rattle.mill_base.specs.declared.face.Face.TheVariants.{Up}
 use Rattle.card_image.specs.Sets.{CardsValue, design_by}
 use Rattle.loom_machine.specs.Machines.{MachineValue}
 use Rattle.version_journal.specs.declared.run_log.Repeat.{Repeat}
-use Rattle.shed_publish.specs.Ends.{EndValue, Knows as EndKnows}
+use Rattle.shed_publish.specs.Ends.{EndValue, Knows as EndKnows, new_end}
 use Rattle.shed_publish.specs.Versions.{IsPrefix}
 use Rattle.shed_publish.specs.declared.desk_end.Seat.{Seat}
 use Rattle.shed_publish.specs.declared.desk_end.Seat.TheVariants.{Reads, Later}
@@ -56,6 +56,10 @@ readings_of loom = option_map_or (λ end. end.readings) loom.end 0
 
 abbrev pub missed_of : LoomValue → ℕ
 missed_of loom = option_map_or (λ end. end.missed) loom.end 0
+
+-- the loom's end; without one, an end that has seen and learnt nothing
+abbrev pub seen_by : LoomValue → EndValue
+seen_by loom = option_map_or (λ end. end) loom.end new_end
 
 -- the loom has an end, and whatever that sees from now on begins with the told list
 pub record Knows (told : List Version) (loom : LoomValue) : Type 0 where
@@ -106,3 +110,7 @@ pub record Wove (shift : ℕ) (before after : LoomValue) : Type 0 where
   pub readings : min (readings_of before + length new) (2 ^ 64 - 1) ≤ readings_of after
   pub no_more : readings_of after ≤ readings_of before + length new
   pub missed : missed_of before ≤ missed_of after
+
+-- the last repeat of the loom is of the last entry of the list that its end saw last
+abbrev pub EndWithNewest : LoomValue → Type 0
+EndWithNewest loom = IsSomeAnd (slice_get loom.repeats (length loom.repeats - 1)) (λ woven. woven.version + 1 ≡ length (list_of loom))

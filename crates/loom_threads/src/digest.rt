@@ -3,7 +3,6 @@ ghost use Rattle.std.specs.Prelude.{◌≡◌, ◌+◌, ◌/◌, ◌++◌, ℕ, 
 ghost use Rattle.sha2.specs.Hashers.{Holds256};
 ghost use Rattle.mill_base.specs.Bits.{packed};
 ghost use Rattle.mill_base.specs.declared.face.Face.TheVariants.{Up};
-ghost use Rattle.casting_out.specs.Castings.{IsCasting};
 ghost use Rattle.point_paper.specs.Papers.{PaperCells};
 ghost use Rattle.draft_model.specs.Designs.{Fits, IsPaperOf};
 ghost use Rattle.draft_model.specs.Drawdowns.{drawdown as drawdown_of};
@@ -15,7 +14,6 @@ ghost use Rattle.loom_threads.specs.Woven.{digest_of};
 use crate::laws::{cut_cards_lift_the_cloth, lifted_rows_are_the_drawdown};
 use crate::lifter::Lifter;
 use card_image::card_set::CardSet;
-use casting_out::casting::Casting;
 use draft_model::cloth::Cloth;
 use draft_model::design::Design;
 use draft_model::drawdown::drawdown;
@@ -50,16 +48,8 @@ pub fn cards_digest(
 {
     lifted_rows_are_the_drawdown();
     cut_cards_lift_the_cloth();
-    know_casting(&design.casting);
     let mut lifter = Lifter::new(alloc, &design.tie, &design.casting, Face::Up)?;
     Ok(lifter.digest(cards))
-}
-
-// Tells a proof that the columns hang on hooks in rising order.
-fn know_casting(casting: &Casting)
-    ensures { IsCasting casting.now }
-{
-    let _ = casting.hooks();
 }
 
 /// The digest of a cloth: SHA-256 (FIPS 180-4) of its rows from pick 0 on, each packed into bytes.

@@ -6,6 +6,4 @@ pub mod digest;
 pub mod laws;
 mod lifter;
 pub mod loom;
-#[cfg(test)]
-mod tests;
 mod weaver;

@@ -2,6 +2,7 @@
 ghost use Rattle.std.specs.Prelude.{◌≡◌, ◌+◌, ◌/◌, ◌<◌, ◌++◌, ℕ, List, [], length, slice_set, slice_index_or, IfOk};
 ghost use Rattle.sha2.specs.Hashers.{Holds256};
 ghost use Rattle.mill_base.specs.Bits.{packed as packed_row};
+ghost use Rattle.casting_out.specs.Castings.{IsCasting};
 ghost use Rattle.card_image.specs.Sets.{turned_card};
 ghost use Rattle.loom_threads.specs.Lifts.{cloth_from, row_from};
 ghost use Rattle.loom_threads.specs.Woven.{digest_of};
@@ -50,7 +51,8 @@ impl Lifter {
         face: Face,
     ) -> Result<Lifter, OutOfMemory>
         requires { length casting.now.columns ≡ tie.now.columns }
-        ensures { IfOk result (λ lifter. lifter ≡ record { machine = record { tie = tie.now; casting = casting.now }; face = face }) }
+        ensures lifter { IfOk result (λ lifter. lifter ≡ record { machine = record { tie = tie.now; casting = casting.now }; face = face }) }
+        ensures casting { IfOk result (λ _. IsCasting casting.now) }
     {
         let machine = Machine::new(alloc, tie, casting)?;
         let row = BitRow::new(alloc, tie.ends())?;

@@ -3,11 +3,11 @@ ghost use Rattle.std.specs.Prelude.{◌≡◌, ◌+◌, ◌-◌, ◌^◌, ◌<�
 ghost use Rattle.std.specs.Arc.{arc_value};
 ghost use Rattle.mill_base.specs.Causes.{Rose, risen};
 ghost use Rattle.card_image.specs.Sets.{design_by};
-ghost use Rattle.shed_publish.specs.Ends.{EndsWith, Knows as EndKnows, OneMore};
+ghost use Rattle.shed_publish.specs.Ends.{EndsWith, Knows as EndKnows, OneMore, SawOther};
 ghost use Rattle.shed_publish.specs.Versions.{IsPrefix, IsPublished, version_of};
 ghost use Rattle.shed_publish.specs.declared.newest.Version.{Version as Entry};
 ghost use Rattle.session_file.specs.Plans.{Fits};
-ghost use Rattle.loom_threads.specs.Looms.{IsLoomOf, IsTold, Knows, KnowsOr, Wove, end_by, list_of, missed_of, readings_of, repeat_from, repeats_of};
+ghost use Rattle.loom_threads.specs.Looms.{EndWithNewest, IsLoomOf, IsTold, Knows, KnowsOr, Wove, end_by, list_of, missed_of, readings_of, repeat_from, repeats_of, seen_by};
 
 use crate::counts::count_repeats;
 use crate::weaver::Weaver;
@@ -178,10 +178,12 @@ impl Loom {
         ensures met { result ≡ true → drop known (list_of self.new) ≡ drop known told.entry.desk.now.list }
         ensures published { result ≡ true → IsPublished (list_of self.new) }
         ensures read { result ≡ true → Rose (readings_of self.old) (readings_of self.new) × (missed_of self.new ≡ missed_of self.old) }
+        ensures other { result ≡ false → SawOther known told.entry.desk.now.list (seen_by self.old) (seen_by self.new) }
         ensures missed { result ≡ false → Rose (missed_of self.old) (missed_of self.new) × (readings_of self.new ≡ readings_of self.old) }
         ensures seen { IsPublished (list_of self.new) ⊎ (list_of self.new ≡ list_of self.old) }
         ensures one_reading { result ≡ true → readings_of self.new ≡ risen (readings_of self.old) }
         ensures one_missed { result ≡ false → missed_of self.new ≡ risen (missed_of self.old) }
+        ensures no_fewer { (readings_of self.old ≤ readings_of self.new) × (missed_of self.old ≤ missed_of self.new) }
         ensures desk { told.exit.0.now ≡ told.entry.desk.now }
     {
         match &mut self.end {
@@ -203,6 +205,7 @@ impl Loom {
         ensures missed { length self.new.repeats < length self.old.repeats + count → Rose (missed_of self.old) (missed_of self.new) }
         ensures one_missed { length self.new.repeats < length self.old.repeats + count → missed_of self.new ≡ risen (missed_of self.old) }
         ensures none_missed { length self.new.repeats ≡ length self.old.repeats + count → missed_of self.new ≡ missed_of self.old }
+        ensures newest { length self.new.repeats ≡ length self.old.repeats + count → 0 < count → EndWithNewest self.new }
     {
         'repeats: for _ in 0..count {
             if !self.turn(shift, gate) {
@@ -219,6 +222,7 @@ impl Loom {
         ensures told { IsTold self.new }
         ensures count { length self.new.repeats ≡ length self.old.repeats + (if result then 1 else 0) }
         ensures missed { missed_of self.new ≡ (if result then missed_of self.old else risen (missed_of self.old)) }
+        ensures newest { result ≡ true → EndWithNewest self.new }
     {
         let loom = self.number;
         let repeat = self.weaver.woven();
@@ -241,10 +245,10 @@ impl Loom {
         ensures told { OnSome result ((list : List Entry) → Knows list self.old → IsPrefix list (list_of self.new)) }
         ensures read { OnSome result ((readings_of self.new ≡ risen (readings_of self.old)) × (missed_of self.new ≡ missed_of self.old)) }
         ensures none { IfNone result ((missed_of self.new ≡ risen (missed_of self.old)) × (readings_of self.new ≡ readings_of self.old)) }
-        ensures few { missed_of self.old < 2 ^ 64 }
+        ensures no_fewer { (readings_of self.old ≤ readings_of self.new) × (missed_of self.old ≤ missed_of self.new) }
     {
         match &mut self.end {
-            Some(end) => read(end),
+            Some(end) => end.begin(),
             None => unreachable!(),
         }
     }
@@ -257,16 +261,4 @@ fn end_of(seat: Seat) -> Option<LoomEnd>
         Seat::Reads(end) => Some(end),
         Seat::Later => None,
     }
-}
-
-fn read(end: &mut LoomEnd) -> Option<Newest>
-    ensures later { IsPrefix end.old.list end.new.list }
-    ensures knows { (list : List Entry) → EndKnows list end.old → EndKnows list end.new }
-    ensures some { IfSome result (λ newest. EndsWith end.new.list (version_of newest) × (end.new.learnt ≡ []) × IsPublished end.new.list) }
-    ensures read { OnSome result ((end.new.readings ≡ risen end.old.readings) × (end.new.missed ≡ end.old.missed)) }
-    ensures none { IfNone result ((end.new.missed ≡ risen end.old.missed) × (end.new.readings ≡ end.old.readings)) }
-    ensures few { end.old.missed < 2 ^ 64 }
-{
-    let _ = end.missed();
-    end.begin()
 }

@@ -1,5 +1,5 @@
 -- What contracts see of the ends of a published list.
-use Rattle.std.specs.Prelude.{◌≡◌, ℕ, List, [], ◌∷◌, ◌++◌, ◌⊎◌}
+use Rattle.std.specs.Prelude.{◌≡◌, ◌≢◌, ℕ, List, [], ◌∷◌, ◌++◌, ◌⊎◌, length, drop}
 use Rattle.mill_base.specs.Causes.{Rose, risen}
 use Rattle.shed_publish.specs.Versions.{IsPrefix, IsPublished, BeginsWithAll}
 use Rattle.shed_publish.specs.declared.newest.Version.{Version}
@@ -39,6 +39,16 @@ pub record SawMore (before now : EndValue) : Type 0 where
 -- it has, or its lists are as before
 abbrev pub SawOrStayed : EndValue → EndValue → Type 0
 SawOrStayed before now = SawMore before now ⊎ ((now.list ≡ before.list) × (now.learnt ≡ before.learnt))
+
+-- two lists are of different lengths, or have different entries from the place `known` on
+abbrev pub Differ : ℕ → List Version → List Version → Type 0
+Differ known one other = (length one ≢ length other) ⊎ (drop known one ≢ drop known other)
+
+-- this end has seen such a list, and it differs from the told one; or its lists are as before, as a missed reading leaves
+-- them
+abbrev pub SawOther : ℕ → List Version → EndValue → EndValue → Type 0
+SawOther known told before now =
+    (SawMore before now × Differ known now.list told) ⊎ ((now.list ≡ before.list) × (now.learnt ≡ before.learnt))
 
 -- a count stays, or one is added
 abbrev pub OneMore : ℕ → ℕ → Type 0

@@ -8,8 +8,6 @@ pub mod loom_end;
 pub mod newest;
 mod publishing;
 mod reading;
-#[cfg(test)]
-mod tests;
 pub mod told;
 
 pub use board::{Board, Put, View};

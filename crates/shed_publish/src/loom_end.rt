@@ -1,7 +1,7 @@
 //! The ends that read.
-ghost use Rattle.std.specs.Prelude.{◌≡◌, List, true, false, drop, [], length, IfSome, OnSome, IfNone};
+ghost use Rattle.std.specs.Prelude.{◌≡◌, ◌≤◌, List, true, false, drop, [], length, IfSome, OnSome, IfNone};
 ghost use Rattle.mill_base.specs.Causes.{Rose, risen};
-ghost use Rattle.shed_publish.specs.Ends.{EndsWith, Knows, LearntOr, OneMore, SawOrStayed};
+ghost use Rattle.shed_publish.specs.Ends.{EndsWith, Knows, LearntOr, OneMore, SawOrStayed, SawOther};
 ghost use Rattle.shed_publish.specs.Versions.{version_of, IsPrefix, IsPublished, BeginsWithAll};
 ghost use Rattle.shed_publish.specs.inner.Places.{seen_at};
 ghost use Rattle.shed_publish.specs.declared.newest.Version.{Version as Entry};
@@ -79,6 +79,7 @@ impl LoomEnd {
         ensures seen { SawOrStayed self.old self.new }
         ensures one_reading { OnSome result (self.new.readings ≡ risen self.old.readings) }
         ensures one_missed { IfNone result (self.new.missed ≡ risen self.old.missed) }
+        ensures no_fewer { (self.old.readings ≤ self.new.readings) × (self.old.missed ≤ self.new.missed) }
     {
         let Some(reader) = self.reader.take() else {
             self.count(false);
@@ -92,7 +93,8 @@ impl LoomEnd {
 
     /// Reads once, lets the cards go, and answers whether the list that it sees is the told one: of the same length,
     /// and with the same entries from the place `known` on. The entries before it are known to the caller as a list
-    /// that was told before. It takes no memory and waits for nobody.
+    /// that was told before. Where it reads nothing, it answers false and its lists stay. It takes no memory and waits
+    /// for nobody.
     pub fn meet(&mut self, told: Told<'_>, known: u32) -> bool
         ensures later { IsPrefix self.old.list self.new.list }
         ensures knows { (list : List Entry) → Knows list self.old → Knows list self.new }
@@ -101,10 +103,12 @@ impl LoomEnd {
         ensures same { result ≡ true → drop known self.new.list ≡ drop known told.entry.desk.now.list }
         ensures published { result ≡ true → IsPublished self.new.list }
         ensures read { result ≡ true → Rose self.old.readings self.new.readings × (self.new.missed ≡ self.old.missed) }
+        ensures other { result ≡ false → SawOther known told.entry.desk.now.list self.old self.new }
         ensures missed { result ≡ false → Rose self.old.missed self.new.missed × (self.new.readings ≡ self.old.readings) }
         ensures seen { SawOrStayed self.old self.new }
         ensures one_reading { result ≡ true → self.new.readings ≡ risen self.old.readings }
         ensures one_missed { result ≡ false → self.new.missed ≡ risen self.old.missed }
+        ensures no_fewer { (self.old.readings ≤ self.new.readings) × (self.old.missed ≤ self.new.missed) }
         ensures desk { told.exit.0.now ≡ told.entry.desk.now }
     {
         let Told { desk } = told;
@@ -123,11 +127,12 @@ impl LoomEnd {
         ensures lists { (self.new.list ≡ self.old.list) × (self.new.learnt ≡ self.old.learnt) }
         ensures readings { given ≡ true → (self.new.readings ≡ risen self.old.readings) × (self.new.missed ≡ self.old.missed) }
         ensures missed { given ≡ false → (self.new.missed ≡ risen self.old.missed) × (self.new.readings ≡ self.old.readings) }
+        ensures no_fewer { (self.old.readings ≤ self.new.readings) × (self.old.missed ≤ self.new.missed) }
     {
         if given {
-            self.readings = self.readings.saturating_add(1);
+            self.readings = self.readings().saturating_add(1);
         } else {
-            self.missed = self.missed.saturating_add(1);
+            self.missed = self.missed().saturating_add(1);
         }
     }
 
@@ -143,22 +148,5 @@ impl LoomEnd {
         ensures { result ≡ self.now.missed }
     {
         self.missed
-    }
-}
-
-#[cfg(test)]
-mod tests {
-    use super::LoomEnd;
-
-    #[test]
-    fn counts_stay_at_their_greatest_value(rt: HostRuntime) {
-        let mut end = LoomEnd {
-            reader: None,
-            readings: u64::MAX,
-            missed: u64::MAX,
-        };
-        assert!(rt; end.begin().is_none());
-        end.count(true);
-        assert_eq!(rt; (end.readings(), end.missed()), (u64::MAX, u64::MAX));
     }
 }

@@ -1,6 +1,6 @@
 //! How a loom reads the published list.
-ghost use Rattle.std.specs.Prelude.{◌≡◌, List, true, map, drop, length, IfSome};
-ghost use Rattle.shed_publish.specs.Ends.{EndsWith, Knows, SawMore, SawOrStayed};
+ghost use Rattle.std.specs.Prelude.{◌≡◌, ◌≢◌, List, true, false, IsTrue, ◌↔◌, map, drop, length, IfSome};
+ghost use Rattle.shed_publish.specs.Ends.{Differ, EndsWith, Knows, SawMore, SawOrStayed, SawOther};
 ghost use Rattle.shed_publish.specs.Versions.{version_of, IsPrefix};
 ghost use Rattle.shed_publish.specs.declared.newest.Version.{Version as Entry};
 ghost use Rattle.shed_publish.specs.inner.Places.{seen_at};
@@ -42,14 +42,21 @@ pub(crate) fn read_newest(reader: Reads) -> (Reads, Option<Newest>)
     }
 }
 
+fn same_entry(one: &Newest, other: &Newest) -> bool
+    ensures { IsTrue result ↔ (version_of one.now ≡ version_of other.now) }
+{
+    one.version == other.version && one.cards.equals(&other.cards)
+}
+
 fn same_entries(one: &[Newest], other: &[Newest]) -> bool
-    ensures { result ≡ true → map version_of one.now ≡ map version_of other.now }
+    ensures same { result ≡ true → map version_of one.now ≡ map version_of other.now }
+    ensures differ { result ≡ false → map version_of one.now ≢ map version_of other.now }
 {
     if one.len() != other.len() {
         return false;
     }
     for (k, entry) in one.iter().enumerate() {
-        if entry.version != other[k].version || !entry.cards.equals(&other[k].cards) {
+        if !same_entry(entry, &other[k]) {
             return false;
         }
     }
@@ -60,6 +67,7 @@ fn same_entries(one: &[Newest], other: &[Newest]) -> bool
 fn same_from(one: &Board, other: &Board, known: u32) -> bool
     ensures length { result ≡ true → length (entries_of one.now) ≡ length (entries_of other.now) }
     ensures entries { result ≡ true → drop known (entries_of one.now) ≡ drop known (entries_of other.now) }
+    ensures differ { result ≡ false → Differ known (entries_of one.now) (entries_of other.now) }
 {
     let len = one.entries.len();
     if len != other.entries.len() {
@@ -79,6 +87,7 @@ pub(crate) fn read_same(reader: Reads, other: &Board, known: u32) -> (Reads, boo
     ensures told { result.1 ≡ true → (list : List Entry) → Knows list (seen_at reader.place) → IsPrefix list (seen_at result.0.place).list }
     ensures length { result.1 ≡ true → length (seen_at result.0.place).list ≡ length (entries_of other.now) }
     ensures same { result.1 ≡ true → drop known (seen_at result.0.place).list ≡ drop known (entries_of other.now) }
+    ensures other { result.1 ≡ false → SawOther known (entries_of other.now) (seen_at reader.place) (seen_at result.0.place) }
 {
     match reader.enter_as::<Looks>() {
         Ok(reading) => {

@@ -8,10 +8,10 @@ use Rattle.loom_threads.proofs.loom.Loom.begin.Goals as goal
 pub returns-clause-knows : goal.returns-clause-knows
 returns-clause-knows c list k =
     let is = sym (ap (λ (l : LoomValue). l.end) c.self.view_is) ∙ c.in-Some.is in
-    record { end = c.read.new.end; is = refl; knows = end_knows list c.args.self.now c.in-Some.end c.read.new.end is c.read.ensures.knows k }
+    record { end = c.begin.new.self; is = refl; knows = end_knows list c.args.self.now c.in-Some.end c.begin.new.self is c.begin.ensures.knows k }
 
 pub returns-clause-told : goal.returns-clause-told
 returns-clause-told c =
     let is = sym (ap (λ (l : LoomValue). l.end) c.self.view_is) ∙ c.in-Some.is in
-    on_some _ ((list : List Version) → Knows list c.args.self.now → IsPrefix list c.read.new.end.list) c.read.result
-    (λ newest seen list k. knows_seen list c.read.new.end seen.1 (end_knows list c.args.self.now c.in-Some.end c.read.new.end is c.read.ensures.knows k)) c.read.ensures.some
+    on_some _ ((list : List Version) → Knows list c.args.self.now → IsPrefix list c.begin.new.self.list) c.begin.result
+    (λ newest seen list k. knows_seen list c.begin.new.self seen.1 (end_knows list c.args.self.now c.in-Some.end c.begin.new.self is c.begin.ensures.knows k)) c.begin.ensures.some

@@ -12,6 +12,7 @@ repeats-init g c =
       told = c.requires.told;
       count = omega arith;
       missed = refl;
+      newest = λ some. absurd (omega arith);
     }
 
 pub repeats-preserved : goal.repeats-preserved
@@ -20,6 +21,7 @@ repeats-preserved g c = record {
   told = c.turn.ensures.told;
   count = omega (arith, c.if-not-turn.ensures.count, c.repeats.invariant.count);
   missed = c.if-not-turn.ensures.missed ∙ c.repeats.invariant.missed;
+  newest = λ some. c.if-not-turn.ensures.newest refl;
 }
 
 pub returns-then-not-turn-clause-wove : goal.returns-then-not-turn-clause-wove

@@ -1,5 +1,5 @@
-use Rattle.std.proofs.Common.{◌≡◌, ◌+◌, ◌≤◌, length}
-use Rattle.loom_threads.specs.Looms.{IsTold, Wove, missed_of}
+use Rattle.std.proofs.Common.{◌≡◌, ◌+◌, ◌<◌, ◌≤◌, length}
+use Rattle.loom_threads.specs.Looms.{EndWithNewest, IsTold, Wove, missed_of}
 use Rattle.loom_threads.proofs.loom.Loom.run.Given as goal
 
 abbrev pub invariant-repeats : goal.invariant-repeats
@@ -8,4 +8,5 @@ invariant-repeats g l = record {
   told : IsTold l.self;
   count : length l.self.repeats ≡ length l.initial.self.repeats + l.counter;
   missed : missed_of l.self ≡ missed_of l.initial.self;
+  newest : 0 < l.counter → EndWithNewest l.self;
 }

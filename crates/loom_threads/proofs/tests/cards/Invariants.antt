@@ -1,8 +1,0 @@
-use Rattle.std.proofs.Common.{◌≡◌, length}
-use Rattle.loom_threads.proofs.tests.cards.Given as goal
-
-abbrev pub invariant-loop-column : goal.invariant-loop-column
-invariant-loop-column l = record {
-  columns : l.bits.columns ≡ l.design.size.columns;
-  picks : length l.bits.rows ≡ l.design.size.picks;
-}
