@@ -4,6 +4,7 @@
 use mill_io::file_shelf::FileShelf;
 use mill_io::gate::OpenGate;
 use mill_io::output_sink::OutputSink;
+use mill_io::program::program_of;
 use report_text::cause::Cause;
 use report_text::fault_line::fault_line;
 use std::alloc::Global;
@@ -12,14 +13,13 @@ use std::process::ExitCode;
 use std::rt::Env;
 use std::{env, io};
 use studio_run::answer::studio;
+use studio_run::page::{page_of, put_page};
 
 fn main(rt: HostRuntime) -> ExitCode {
     let alloc = rt.alloc();
-    let words = words(&rt);
-    let mut shelf = FileShelf::new(&rt);
-    let mut out = OutputSink::output(&rt);
+    let mut out = OutputSink::output(rt);
     let mut err = OutputSink::errors(rt);
-    let words = match words {
+    let words = match words(&rt) {
         Ok(words) => words,
         Err(error) if error.kind() == ErrorKind::OutOfMemory => {
             fault_line(&Cause::OutOfMemory, &mut err);
@@ -27,6 +27,11 @@ fn main(rt: HostRuntime) -> ExitCode {
         }
         Err(_) => Vec::new(alloc),
     };
+    // All other programs but the pages are the studio's, which knows no such words.
+    if let Some(page) = page_of(program_of(&words), &words) {
+        return ExitCode::from(put_page(page, &mut out, &mut err).status());
+    }
+    let mut shelf = FileShelf::new(&rt);
     let answer = studio(
         &rt, alloc, &words, &mut shelf, &mut out, &mut err, &OpenGate,
     );

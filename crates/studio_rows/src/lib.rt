@@ -13,6 +13,8 @@ mod commands;
 #[cfg(test)]
 mod files;
 #[cfg(test)]
+mod greatest;
+#[cfg(test)]
 mod images;
 #[cfg(test)]
 mod outside;

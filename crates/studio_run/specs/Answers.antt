@@ -1,7 +1,5 @@
 -- What the answer of the studio says.
-use Rattle.std.specs.Prelude.{◌≡◌, ◌⊎◌, ℕ, ◌≤◌, Bool, true, false, List, map, Option, Some, None, IsNone, IsSomeAnd, MatchOption, is_some, String}
-use Rattle.std.specs.String.{string_bytes}
-use Rattle.std.specs.declared.alloc.Global.{Global}
+use Rattle.std.specs.Prelude.{◌≡◌, ◌⊎◌, ℕ, ◌≤◌, Bool, true, false, List, Option, Some, None, IsNone, IsSomeAnd, MatchOption, is_some}
 use Rattle.mill_base.specs.Causes.{Rose, risen}
 use Rattle.mill_base.specs.declared.limits.TheConstants.{MAX_FILE_BYTES}
 use Rattle.mill_io.specs.Files.{File, Stands, StandsInPart}
@@ -19,10 +17,6 @@ use Rattle.studio_run.specs.declared.command.Command.{Command}
 use Rattle.studio_run.specs.declared.command.Command.TheVariants.{Weave, Check, Draw, Paper, Cards, Lift, Trial}
 use Rattle.studio_run.specs.Commands.{chain_name, command_of, file_name, reads_file, runs_looms, session_name}
 use Rattle.studio_run.specs.Outputs.{IsAbout, IsOfFile, IsOutput, cards_of}
-
--- the words of the command line as bytes
-abbrev pub texts : List (String Global) → List (List ℕ)
-texts words = map (λ word. string_bytes word) words
 
 -- what contracts see of a shelf at a moment: its files, its counts of faults, and the name of the read that failed last
 pub record ShelfState : Type 0 where

@@ -8,6 +8,10 @@ use Rattle.studio_run.specs.declared.command.Command.TheVariants.{Weave, Check, 
 abbrev pub is_given : List ℕ → Bool
 is_given word = not (length word == 0)
 
+-- a file that is written has another name than one that is read
+abbrev pub is_other : List ℕ → List ℕ → Bool
+is_other written read = not (bytes_eq written read)
+
 -- `weave SESSION`, `check SESSION`, `trial N`
 abbrev pub command_of_two : List ℕ → List ℕ → Option Command
 command_of_two verb name =
@@ -24,18 +28,25 @@ command_of_three verb =
     else if bytes_eq verb (codes "cards") then Some (Cards Up)
     else None
 
--- `lift SESSION CHAIN OUT`, `cards SESSION OUT down`
-abbrev pub command_of_four : List ℕ → List ℕ → Option Command
-command_of_four verb last =
-    if bytes_eq verb (codes "lift") then Some Lift
-    else if bytes_eq verb (codes "cards") && bytes_eq last (codes "down") then Some (Cards Down)
+-- `lift SESSION CHAIN OUT`
+abbrev pub lift_of : List ℕ → List ℕ → List ℕ → Option Command
+lift_of session chain out = if is_other out session && is_other out chain then Some Lift else None
+
+-- `cards SESSION OUT down`
+abbrev pub cards_of_texts : List ℕ → List ℕ → List ℕ → Option Command
+cards_of_texts session out last = if bytes_eq last (codes "down") && is_other out session then Some (Cards Down) else None
+
+abbrev pub command_of_four : List ℕ → List ℕ → List ℕ → List ℕ → Option Command
+command_of_four verb session second last =
+    if bytes_eq verb (codes "lift") then lift_of session second last
+    else if bytes_eq verb (codes "cards") then cards_of_texts session second last
     else None
 
--- What the words ask for: exactly the words of a command, none of them empty.
+-- What the words ask for: exactly the words of a command, none of them empty, and what is written is none of the files that the words have read.
 abbrev pub command_of : List (List ℕ) → Option Command
 command_of (verb ∷ name ∷ []) = if is_given name then command_of_two verb name else None
-command_of (verb ∷ name ∷ second ∷ []) = if is_given name && is_given second then command_of_three verb else None
-command_of (verb ∷ name ∷ second ∷ last ∷ []) = if is_given name && is_given second && is_given last then command_of_four verb last else None
+command_of (verb ∷ name ∷ second ∷ []) = if is_given name && is_given second && is_other second name then command_of_three verb else None
+command_of (verb ∷ name ∷ second ∷ last ∷ []) = if is_given name && is_given second && is_given last then command_of_four verb name second last else None
 command_of words = None
 
 -- the names of files among the words: of the session, of the chain that `lift` reads, and of what is written

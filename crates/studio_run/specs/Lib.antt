@@ -1,4 +1,5 @@
 pub mod Commands
 pub mod Outputs
 pub mod Answers
+pub mod Pages
 pub mod inner

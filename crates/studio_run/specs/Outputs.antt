@@ -17,8 +17,8 @@ use Rattle.session_file.specs.Trials.{trial}
 use Rattle.session_file.specs.declared.session.Session.{Session}
 use Rattle.loom_threads.specs.Woven.{digest_of}
 use Rattle.report_text.specs.Reports.{check_line, report, trial_line}
-use Rattle.shift_run.specs.Logs.{Legal, named_act}
-use Rattle.shift_run.specs.Plans.{IsNewest, plain_order, plain_versions}
+use Rattle.shift_model.specs.Logs.{Legal, named_act}
+use Rattle.shift_model.specs.Plans.{IsNewest, plain_order, plain_versions}
 use Rattle.studio_run.specs.declared.command.Command.{Command}
 use Rattle.studio_run.specs.declared.command.Command.TheVariants.{Weave, Check, Draw, Paper, Cards, Lift, Trial}
 use Rattle.studio_run.specs.Commands.{chain_name, session_name}

@@ -4,7 +4,8 @@ ghost use Rattle.mill_base.specs.Causes.{Rose};
 ghost use Rattle.mill_io.specs.Files.{File};
 ghost use Rattle.mill_io.specs.Takes.{TookAll, TookPart};
 ghost use Rattle.report_text.specs.Causes.{line, status_of};
-ghost use Rattle.studio_run.specs.Answers.{IsCausedBy, IsGood, has_run, name_at, outside, reads_at, shelf_state, sink_state, texts};
+ghost use Rattle.mill_io.specs.Programs.{texts};
+ghost use Rattle.studio_run.specs.Answers.{IsCausedBy, IsGood, has_run, name_at, outside, reads_at, shelf_state, sink_state};
 ghost use Rattle.studio_run.specs.Commands.{command_of, is_plain};
 
 use crate::command::Command;
@@ -69,9 +70,9 @@ pub fn studio<R: Threads + Wait + Sync, H: Shelf, K: Sink, E: Sink, G: Gate>(
     ensures later { (H.read_faults shelf.old ≤ H.read_faults shelf.new) × (H.write_faults shelf.old ≤ H.write_faults shelf.new)
         × (K.faults out.old ≤ K.faults out.new) × (E.faults err.old ≤ E.faults err.new) }
 
-    // Standard error gets nothing where all was done, and else the line of the cause, or a prefix of it where its count rose.
+    // Standard error gets nothing where all was done, and else the line of the cause and no fault, or a prefix of it where its count rose.
     ensures silent { result.cause ≡ Cause.Done → (E.taken err.new ≡ E.taken err.old) × (E.faults err.new ≡ E.faults err.old) }
-    ensures line { TookAll (E.taken err.old) (E.taken err.new) (line result.cause)
+    ensures line { (TookAll (E.taken err.old) (E.taken err.new) (line result.cause) × (E.faults err.new ≡ E.faults err.old))
         ⊎ (Rose (E.faults err.old) (E.faults err.new) × TookPart (E.taken err.old) (E.taken err.new) (line result.cause)) }
 
     // Where the outside did not fail, words and files decide: all is done exactly where they are good, unless memory is wanting.
@@ -113,7 +114,7 @@ pub fn plain_command<H: Shelf, K: Sink, E: Sink>(
     ensures later { (H.read_faults shelf.old ≤ H.read_faults shelf.new) × (H.write_faults shelf.old ≤ H.write_faults shelf.new)
         × (K.faults out.old ≤ K.faults out.new) × (E.faults err.old ≤ E.faults err.new) }
     ensures silent { result.cause ≡ Cause.Done → (E.taken err.new ≡ E.taken err.old) × (E.faults err.new ≡ E.faults err.old) }
-    ensures line { TookAll (E.taken err.old) (E.taken err.new) (line result.cause)
+    ensures line { (TookAll (E.taken err.old) (E.taken err.new) (line result.cause) × (E.faults err.new ≡ E.faults err.old))
         ⊎ (Rose (E.faults err.old) (E.faults err.new) × TookPart (E.taken err.old) (E.taken err.new) (line result.cause)) }
     ensures complete { (held : List File) → H.files shelf.old ≡ Some held → ¬ Rose (H.read_faults shelf.old) (H.read_faults shelf.new)
         → ¬ Rose (H.write_faults shelf.old) (H.write_faults shelf.new) → ¬ Rose (K.faults out.old) (K.faults out.new)

@@ -1,7 +1,7 @@
 //! The words of the command line.
 ghost use Rattle.std.specs.Prelude.{◌≡◌, option_copied};
-ghost use Rattle.studio_run.specs.Answers.{texts};
-ghost use Rattle.studio_run.specs.Commands.{command_of, command_of_four, command_of_three, command_of_two, file_name as file_name_of, runs_looms as does_run_looms, word_at};
+ghost use Rattle.mill_io.specs.Programs.{texts};
+ghost use Rattle.studio_run.specs.Commands.{cards_of_texts, command_of, command_of_four, command_of_three, command_of_two, file_name as file_name_of, is_other as is_other_text, lift_of, runs_looms as does_run_looms, word_at};
 
 use mill_base::face::Face;
 use mill_base::words::number;
@@ -26,18 +26,22 @@ pub enum Command {
 }
 
 impl Command {
-    /// What the words ask for, where they are exactly those of a command and none of them is empty. The words are this project's own.
+    /// What the words ask for, where they are exactly those of a command, none of them is empty, and the file that is written has another
+    /// name than those that the words have read. The words are this project's own.
     pub fn parse(words: &[String]) -> Option<Command>
         ensures { result ≡ command_of (texts words.now) }
     {
         match words {
             [verb, name] if !name.is_empty() => command_of_two_words(verb.as_str(), name.as_str()),
-            [verb, name, second] if !name.is_empty() && !second.is_empty() => {
+            [verb, name, second]
+                if !name.is_empty()
+                    && !second.is_empty()
+                    && is_other(second.as_str(), name.as_str()) => {
                 command_of_three_words(verb.as_str())
             }
             [verb, name, second, last]
                 if !name.is_empty() && !second.is_empty() && !last.is_empty() => {
-                command_of_four_words(verb.as_str(), last.as_str())
+                command_of_four_words(verb.as_str(), name.as_str(), second.as_str(), last.as_str())
             }
             _ => None,
         }
@@ -97,12 +101,37 @@ fn command_of_three_words(verb: &str) -> Option<Command>
     }
 }
 
-fn command_of_four_words(verb: &str, last: &str) -> Option<Command>
-    ensures { result ≡ command_of_four verb.now last.now }
+fn command_of_four_words(verb: &str, session: &str, second: &str, last: &str) -> Option<Command>
+    ensures { result ≡ command_of_four verb.now session.now second.now last.now }
 {
-    match (verb, last) {
-        ("lift", _) => Some(Command::Lift),
-        ("cards", "down") => Some(Command::Cards(Face::Down)),
+    match verb {
+        "lift" => lift_of_words(session, second, last),
+        "cards" => cards_of_words(session, second, last),
         _ => None,
     }
+}
+
+fn lift_of_words(session: &str, chain: &str, out: &str) -> Option<Command>
+    ensures { result ≡ lift_of session.now chain.now out.now }
+{
+    if is_other(out, session) && is_other(out, chain) {
+        return Some(Command::Lift);
+    }
+    None
+}
+
+fn cards_of_words(session: &str, out: &str, last: &str) -> Option<Command>
+    ensures { result ≡ cards_of_texts session.now out.now last.now }
+{
+    if last == "down" && is_other(out, session) {
+        return Some(Command::Cards(Face::Down));
+    }
+    None
+}
+
+// The file that is written is not the one that is read.
+fn is_other(written: &str, read: &str) -> bool
+    ensures { result ≡ is_other_text written.now read.now }
+{
+    written != read
 }

@@ -5,7 +5,8 @@ ghost use Rattle.session_file.specs.Plans.{Fits};
 ghost use Rattle.session_file.specs.declared.session.Session.{Session as SessionValue};
 ghost use Rattle.version_journal.specs.Journals.{float_kept};
 ghost use Rattle.studio_core.specs.Refusals.{IsStartRefusal};
-ghost use Rattle.studio_run.specs.Answers.{Fails, texts};
+ghost use Rattle.mill_io.specs.Programs.{texts};
+ghost use Rattle.studio_run.specs.Answers.{Fails};
 ghost use Rattle.studio_run.specs.Outputs.{IsAbout};
 ghost use Rattle.studio_run.specs.inner.Ends.{Refuses, name_after, reads_after};
 

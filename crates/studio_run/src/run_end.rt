@@ -2,10 +2,11 @@
 ghost use Rattle.std.specs.Prelude.{◌≡◌, ◌≤◌, true, None, Some, IfOk};
 ghost use Rattle.std.specs.Arc.{arc_value};
 ghost use Rattle.version_journal.specs.Journals.{float_kept};
-ghost use Rattle.shift_run.specs.Logs.{Legal};
+ghost use Rattle.shift_model.specs.Logs.{Legal};
 ghost use Rattle.shift_run.specs.Runs.{AreCardsOfNewest};
 ghost use Rattle.session_file.specs.Plans.{Fits};
-ghost use Rattle.studio_run.specs.Answers.{IsEndOf, name_at, outside, reads_at, shelf_state, sink_state, texts};
+ghost use Rattle.mill_io.specs.Programs.{texts};
+ghost use Rattle.studio_run.specs.Answers.{IsEndOf, name_at, outside, reads_at, shelf_state, sink_state};
 ghost use Rattle.studio_run.specs.Commands.{runs_looms};
 ghost use Rattle.studio_run.specs.inner.Ends.{FixesOrder, IsRun, Made};
 

@@ -1,4 +1,5 @@
-use Rattle.studio_run.specs.Answers.{outside, shelf_state, sink_state, texts}
+use Rattle.mill_io.specs.Programs.{texts}
+use Rattle.studio_run.specs.Answers.{outside, shelf_state, sink_state}
 use Rattle.std.proofs.Common.{None}
 use Rattle.studio_run.proofs.answer.plain_command.Goals as goal
 

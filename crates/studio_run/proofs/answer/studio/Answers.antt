@@ -1,4 +1,5 @@
-use Rattle.studio_run.specs.Answers.{outside, shelf_state, sink_state, texts}
+use Rattle.mill_io.specs.Programs.{texts}
+use Rattle.studio_run.specs.Answers.{outside, shelf_state, sink_state}
 use Rattle.studio_run.proofs.answer.studio.Goals as goal
 
 pub returns-clause-complete : goal.returns-clause-complete

@@ -1,5 +1,5 @@
 use Rattle.studio_run.proofs.Ends.{fails_from}
-use Rattle.studio_run.specs.Answers.{texts}
+use Rattle.mill_io.specs.Programs.{texts}
 use Rattle.studio_run.proofs.plain_end.make.Goals as goal
 
 pub returns-clause-fails : goal.returns-clause-fails

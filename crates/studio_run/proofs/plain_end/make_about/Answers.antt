@@ -1,6 +1,7 @@
 use Rattle.std.proofs.Common.{sym, subst, None, IfOk}
 use Rattle.studio_run.proofs.Ends.{made_result}
-use Rattle.studio_run.specs.Answers.{IsMade, texts}
+use Rattle.mill_io.specs.Programs.{texts}
+use Rattle.studio_run.specs.Answers.{IsMade}
 use Rattle.studio_run.specs.Outputs.{IsAbout}
 use Rattle.studio_run.specs.declared.command.Command.{Command}
 use Rattle.studio_run.specs.declared.command.Command.TheVariants.{Check}
