@@ -1,0 +1,4 @@
+pub mod Crashes
+pub mod Ends
+pub mod Steps
+pub mod lemmas

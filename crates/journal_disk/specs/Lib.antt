@@ -1,0 +1,5 @@
+pub mod Disks
+pub mod Gates
+pub mod Memory
+pub mod Texts
+pub mod Told
