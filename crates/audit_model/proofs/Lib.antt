@@ -1,0 +1,11 @@
+pub mod Adding
+pub mod Basics
+pub mod Finishing
+pub mod Following
+pub mod Growing
+pub mod Keeping
+pub mod Nexts
+pub mod Pieces
+pub mod Reached
+pub mod Starting
+pub mod Verdicts
