@@ -1,0 +1,5 @@
+pub mod Closing
+pub mod Counting
+pub mod Gathering
+pub mod Keeping
+pub mod Picked
