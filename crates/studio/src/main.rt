@@ -1,6 +1,7 @@
 //! The program: the studio over the files of the system, standard output and standard error.
 #![tactic(auto)]
 
+use help_pages::page::{page_of, put_page};
 use mill_io::file_shelf::FileShelf;
 use mill_io::gate::OpenGate;
 use mill_io::output_sink::OutputSink;
@@ -13,7 +14,6 @@ use std::process::ExitCode;
 use std::rt::Env;
 use std::{env, io};
 use studio_run::answer::studio;
-use studio_run::page::{page_of, put_page};
 
 fn main(rt: HostRuntime) -> ExitCode {
     let alloc = rt.alloc();

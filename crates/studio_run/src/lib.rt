@@ -6,6 +6,5 @@ pub mod command;
 pub mod laws;
 mod lifting;
 mod opening;
-pub mod page;
 mod plain_end;
 mod run_end;

@@ -4,7 +4,7 @@ ghost use Rattle.mill_base.specs.Causes.{Rose, faults_after};
 ghost use Rattle.mill_io.specs.Programs.{texts};
 ghost use Rattle.mill_io.specs.Takes.{Took, TookAll, TookPart};
 ghost use Rattle.report_text.specs.Causes.{line, status_of};
-ghost use Rattle.studio_run.specs.Pages.{page_of as page_of_texts, page_of_command, page_of_first, page_text};
+ghost use Rattle.help_pages.specs.Pages.{page_of as page_of_texts, page_of_command, page_of_first, page_text};
 
 use mill_io::pieces::put_pieces;
 use mill_io::program::Program;

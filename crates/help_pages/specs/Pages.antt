@@ -2,9 +2,9 @@
 use Rattle.std.specs.Prelude.{ℕ, bytes_eq, codes, List, [], ◌∷◌, Option, Some, None, if◌then◌else◌}
 use Rattle.mill_io.specs.declared.program.Program.{Program}
 use Rattle.mill_io.specs.declared.program.Program.TheVariants.{Help, CommandHelp, Version as AskedVersion}
-use Rattle.studio_run.specs.declared.page.TheConstants.{COMMANDS, VERSION, WEAVE, CHECK, DRAW, PAPER, CARDS, LIFT, TRIAL}
-use Rattle.studio_run.specs.declared.page.Page.{Page}
-use Rattle.studio_run.specs.declared.page.Page.TheVariants.{Commands, Version, Weave, Check, Draw, Paper, Cards, Lift, Trial}
+use Rattle.help_pages.specs.declared.page.TheConstants.{COMMANDS, VERSION, WEAVE, CHECK, DRAW, PAPER, CARDS, LIFT, TRIAL}
+use Rattle.help_pages.specs.declared.page.Page.{Page}
+use Rattle.help_pages.specs.declared.page.Page.TheVariants.{Commands, Version, Weave, Check, Draw, Paper, Cards, Lift, Trial}
 
 -- what a page says
 abbrev pub page_text : Page → List ℕ
