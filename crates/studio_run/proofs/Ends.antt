@@ -244,96 +244,57 @@ log_kept (Some command) words o run_log WriteFault is = output_log command words
 log_kept (Some command) words o run_log (TooLong name) is = quiet_log o run_log is.1
 log_kept (Some command) words o run_log (Chain broken) is = quiet_log o run_log is.1
 
--- ---- the count of read faults, and the name of the read that failed last
+-- ---- the count of read faults, and the name of the read that failed last: only a failed read changes them
 
--- where no read failed
+unless_failed_reads : (before : ℕ) (cause : Cause) → ((told : List ℕ) → cause ≡ ReadFault told → ⊥) → before ≡ reads_at before cause
+unless_failed_reads before Done other = refl
+unless_failed_reads before Usage other = refl
+unless_failed_reads before (Session broken) other = refl
+unless_failed_reads before (OpeningFloat float) other = refl
+unless_failed_reads before OutOfMemory other = refl
+unless_failed_reads before (ReadFault told) other = absurd (other told refl)
+unless_failed_reads before WriteFault other = refl
+unless_failed_reads before (TooLong told) other = refl
+unless_failed_reads before (Chain broken) other = refl
+
+unless_failed_name : (before : List ℕ) (cause : Cause) → ((told : List ℕ) → cause ≡ ReadFault told → ⊥) → before ≡ name_at before cause
+unless_failed_name before Done other = refl
+unless_failed_name before Usage other = refl
+unless_failed_name before (Session broken) other = refl
+unless_failed_name before (OpeningFloat float) other = refl
+unless_failed_name before OutOfMemory other = refl
+unless_failed_name before (ReadFault told) other = absurd (other told refl)
+unless_failed_name before WriteFault other = refl
+unless_failed_name before (TooLong told) other = refl
+unless_failed_name before (Chain broken) other = refl
+
 pub refused_reads : (session : SessionValue) (before : ℕ) (cause : Cause) → Refuses session cause → before ≡ reads_at before cause
-refused_reads session before Done is = refl
-refused_reads session before Usage is = refl
-refused_reads session before (Session broken) is = refl
-refused_reads session before (OpeningFloat float) is = refl
-refused_reads session before OutOfMemory is = refl
-refused_reads session before (ReadFault told) is = absurd is
-refused_reads session before WriteFault is = refl
-refused_reads session before (TooLong told) is = refl
-refused_reads session before (Chain broken) is = refl
+refused_reads session before cause is = unless_failed_reads before cause (λ told same. subst (λ (c : Cause). Refuses session c) same is)
 
 pub refused_name : (session : SessionValue) (before : List ℕ) (cause : Cause) → Refuses session cause → before ≡ name_at before cause
-refused_name session before Done is = refl
-refused_name session before Usage is = refl
-refused_name session before (Session broken) is = refl
-refused_name session before (OpeningFloat float) is = refl
-refused_name session before OutOfMemory is = refl
-refused_name session before (ReadFault told) is = absurd is
-refused_name session before WriteFault is = refl
-refused_name session before (TooLong told) is = refl
-refused_name session before (Chain broken) is = refl
+refused_name session before cause is = unless_failed_name before cause (λ told same. subst (λ (c : Cause). Refuses session c) same is)
 
 pub delivered_reads : (name : Option (List ℕ)) (o : Outside) (bytes : List ℕ) (before : ℕ) (cause : Cause) → IsDelivery name o bytes cause → before ≡ reads_at before cause
-delivered_reads name o bytes before Done is = refl
-delivered_reads name o bytes before Usage is = refl
-delivered_reads name o bytes before (Session broken) is = refl
-delivered_reads name o bytes before (OpeningFloat float) is = refl
-delivered_reads name o bytes before OutOfMemory is = refl
-delivered_reads name o bytes before (ReadFault told) is = absurd is
-delivered_reads name o bytes before WriteFault is = refl
-delivered_reads name o bytes before (TooLong told) is = refl
-delivered_reads name o bytes before (Chain broken) is = refl
+delivered_reads name o bytes before cause is = unless_failed_reads before cause (λ told same. subst (λ (c : Cause). IsDelivery name o bytes c) same is)
 
 pub delivered_name : (name : Option (List ℕ)) (o : Outside) (bytes : List ℕ) (before : List ℕ) (cause : Cause) → IsDelivery name o bytes cause → before ≡ name_at before cause
-delivered_name name o bytes before Done is = refl
-delivered_name name o bytes before Usage is = refl
-delivered_name name o bytes before (Session broken) is = refl
-delivered_name name o bytes before (OpeningFloat float) is = refl
-delivered_name name o bytes before OutOfMemory is = refl
-delivered_name name o bytes before (ReadFault told) is = absurd is
-delivered_name name o bytes before WriteFault is = refl
-delivered_name name o bytes before (TooLong told) is = refl
-delivered_name name o bytes before (Chain broken) is = refl
+delivered_name name o bytes before cause is = unless_failed_name before cause (λ told same. subst (λ (c : Cause). IsDelivery name o bytes c) same is)
 
-pub run_reads : (command : Command) (session : SessionValue) (old now : SinkState) (run_log : Option RunLog) (before : ℕ) (cause : Cause) → IsRun command session old now run_log cause → before ≡ reads_at before cause
-run_reads command session old now run_log before Done is = refl
-run_reads command session old now run_log before Usage is = refl
-run_reads command session old now run_log before (Session broken) is = refl
-run_reads command session old now run_log before (OpeningFloat float) is = refl
-run_reads command session old now run_log before OutOfMemory is = refl
-run_reads command session old now run_log before (ReadFault told) is = absurd is
-run_reads command session old now run_log before WriteFault is = refl
-run_reads command session old now run_log before (TooLong told) is = refl
-run_reads command session old now run_log before (Chain broken) is = refl
+pub run_reads : (command : Command) (session : SessionValue) (old now : SinkState) (run_log : Option RunLog) (before : ℕ) (cause : Cause)
+    → IsRun command session old now run_log cause → before ≡ reads_at before cause
+run_reads command session old now run_log before cause is =
+    unless_failed_reads before cause (λ told same. subst (λ (c : Cause). IsRun command session old now run_log c) same is)
 
-pub run_name : (command : Command) (session : SessionValue) (old now : SinkState) (run_log : Option RunLog) (before : List ℕ) (cause : Cause) → IsRun command session old now run_log cause → before ≡ name_at before cause
-run_name command session old now run_log before Done is = refl
-run_name command session old now run_log before Usage is = refl
-run_name command session old now run_log before (Session broken) is = refl
-run_name command session old now run_log before (OpeningFloat float) is = refl
-run_name command session old now run_log before OutOfMemory is = refl
-run_name command session old now run_log before (ReadFault told) is = absurd is
-run_name command session old now run_log before WriteFault is = refl
-run_name command session old now run_log before (TooLong told) is = refl
-run_name command session old now run_log before (Chain broken) is = refl
+pub run_name : (command : Command) (session : SessionValue) (old now : SinkState) (run_log : Option RunLog) (before : List ℕ) (cause : Cause)
+    → IsRun command session old now run_log cause → before ≡ name_at before cause
+run_name command session old now run_log before cause is =
+    unless_failed_name before cause (λ told same. subst (λ (c : Cause). IsRun command session old now run_log c) same is)
 
 pub chain_reads : (session : SessionValue) (chain : List ℕ) (before : ℕ) (cause : Cause) → IsChainFault session chain cause → before ≡ reads_at before cause
-chain_reads session chain before Done is = refl
-chain_reads session chain before Usage is = refl
-chain_reads session chain before (Session broken) is = refl
-chain_reads session chain before (OpeningFloat float) is = refl
-chain_reads session chain before OutOfMemory is = refl
-chain_reads session chain before (ReadFault told) is = absurd is
-chain_reads session chain before WriteFault is = refl
-chain_reads session chain before (TooLong told) is = refl
-chain_reads session chain before (Chain broken) is = refl
+chain_reads session chain before cause is = unless_failed_reads before cause (λ told same. subst (λ (c : Cause). IsChainFault session chain c) same is)
 
 pub chain_told : (session : SessionValue) (chain : List ℕ) (before : List ℕ) (cause : Cause) → IsChainFault session chain cause → before ≡ name_at before cause
-chain_told session chain before Done is = refl
-chain_told session chain before Usage is = refl
-chain_told session chain before (Session broken) is = refl
-chain_told session chain before (OpeningFloat float) is = refl
-chain_told session chain before OutOfMemory is = refl
-chain_told session chain before (ReadFault told) is = absurd is
-chain_told session chain before WriteFault is = refl
-chain_told session chain before (TooLong told) is = refl
-chain_told session chain before (Chain broken) is = refl
+chain_told session chain before cause is = unless_failed_name before cause (λ told same. subst (λ (c : Cause). IsChainFault session chain c) same is)
 
 -- where a session was not read
 pub unread_reads : (before : ℕ) (refusal : SessionRefusal) → after_refusal before (risen before) refusal ≡ reads_at before (cause_of refusal)

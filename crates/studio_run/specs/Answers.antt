@@ -153,26 +153,12 @@ IsEndOf command words o run_log (Chain broken) = FailsQuietly command words o ru
 -- the count of read faults after an end, and the name of the read that failed last: one more, and the name that is told, where a file could not be
 -- read; else both are as before
 abbrev pub reads_at : ℕ → Cause → ℕ
-reads_at before Done = before
-reads_at before Usage = before
-reads_at before (Session broken) = before
-reads_at before (OpeningFloat float) = before
-reads_at before OutOfMemory = before
 reads_at before (ReadFault name) = risen before
-reads_at before WriteFault = before
-reads_at before (TooLong name) = before
-reads_at before (Chain broken) = before
+reads_at before other = before
 
 abbrev pub name_at : List ℕ → Cause → List ℕ
-name_at before Done = before
-name_at before Usage = before
-name_at before (Session broken) = before
-name_at before (OpeningFloat float) = before
-name_at before OutOfMemory = before
 name_at before (ReadFault name) = name
-name_at before WriteFault = before
-name_at before (TooLong name) = before
-name_at before (Chain broken) = before
+name_at before other = before
 
 -- Words that ask for nothing are told at once; else the command has come to its end.
 abbrev pub IsCausedBy : Option Command → List (List ℕ) → Outside → Option RunLog → Cause → Type 0

@@ -29,13 +29,8 @@ pub record Made (command : Command) (session : SessionValue) (run_log : Option R
 
 -- where a command tells of the plain order of the acts, each shift of its session has one painter at most
 abbrev pub FixesOrder : Command → SessionValue → Type 0
-FixesOrder Weave session = Unit {0}
-FixesOrder Check session = Unit {0}
-FixesOrder Draw session = Unit {0}
-FixesOrder Paper session = Unit {0}
-FixesOrder (Cards face) session = Unit {0}
-FixesOrder Lift session = Unit {0}
 FixesOrder (Trial n) session = All (λ plan. length plan.painters ≤ 1) session.shifts
+FixesOrder other session = Unit {0}
 
 -- the count of read faults once something was made, or came to a cause, and the name of the read that failed last
 abbrev pub reads_after : {T : Type 0} → ℕ → Result T Cause → ℕ
@@ -48,41 +43,25 @@ name_after before (Err cause) = name_at before cause
 
 -- a session comes to no output where its opening keeps a float, or where memory is refused
 abbrev pub Refuses : SessionValue → Cause → Type 0
-Refuses session Done = ⊥
-Refuses session Usage = ⊥
-Refuses session (Session broken) = ⊥
 Refuses session (OpeningFloat float) = float_kept session.design session.opening ≡ Some float
 Refuses session OutOfMemory = Unit {0}
-Refuses session (ReadFault name) = ⊥
-Refuses session WriteFault = ⊥
-Refuses session (TooLong name) = ⊥
-Refuses session (Chain broken) = ⊥
+Refuses session other = ⊥
 
 -- the end once there is an output: it went where it was to go, or in part
 abbrev pub IsDelivery : Option (List ℕ) → Outside → List ℕ → Cause → Type 0
 IsDelivery name o bytes Done = Delivered name o bytes
-IsDelivery name o bytes Usage = ⊥
-IsDelivery name o bytes (Session broken) = ⊥
-IsDelivery name o bytes (OpeningFloat float) = ⊥
-IsDelivery name o bytes OutOfMemory = ⊥
-IsDelivery name o bytes (ReadFault told) = ⊥
 IsDelivery name o bytes WriteFault = DeliveredPart name o bytes
-IsDelivery name o bytes (TooLong told) = ⊥
-IsDelivery name o bytes (Chain broken) = ⊥
+IsDelivery name o bytes other = ⊥
 
 -- the end of a run: its output was put out, whole or in part, or nothing was
 abbrev pub IsRun : Command → SessionValue → SinkState → SinkState → Option RunLog → Cause → Type 0
 IsRun command session before now run_log Done =
     (bytes : List ℕ) × Made command session run_log bytes × (now.faults ≡ before.faults) × TookAll before.taken now.taken bytes
-IsRun command session before now run_log Usage = ⊥
-IsRun command session before now run_log (Session broken) = ⊥
 IsRun command session before now run_log (OpeningFloat float) = (float_kept session.design session.opening ≡ Some float) × (now ≡ before) × (run_log ≡ None)
 IsRun command session before now run_log OutOfMemory = (now ≡ before) × (run_log ≡ None)
-IsRun command session before now run_log (ReadFault name) = ⊥
 IsRun command session before now run_log WriteFault =
     (bytes : List ℕ) × Made command session run_log bytes × Rose before.faults now.faults × TookPart before.taken now.taken bytes
-IsRun command session before now run_log (TooLong name) = ⊥
-IsRun command session before now run_log (Chain broken) = ⊥
+IsRun command session before now run_log other = ⊥
 
 -- ---- the command `lift`
 
@@ -102,37 +81,23 @@ pub record IsLifted (session : SessionValue) (files : Option (List File)) (name 
   pub lifted : IsLiftedFrom session chain bytes
 
 abbrev pub IsChainFault : SessionValue → List ℕ → Cause → Type 0
-IsChainFault session chain Done = ⊥
-IsChainFault session chain Usage = ⊥
-IsChainFault session chain (Session broken) = ⊥
-IsChainFault session chain (OpeningFloat float) = ⊥
 IsChainFault session chain OutOfMemory = Unit {0}
-IsChainFault session chain (ReadFault name) = ⊥
-IsChainFault session chain WriteFault = ⊥
-IsChainFault session chain (TooLong name) = ⊥
 IsChainFault session chain (Chain broken) = end_fault (cards_of session) chain ≡ Some broken
+IsChainFault session chain other = ⊥
 
 -- a file was not read: the read failed in this call, or there is too much in it
 abbrev pub IsUnread : Option (List File) → List ℕ → Type 0 → List ℕ → Cause → Type 0
-IsUnread files name rose failed Done = ⊥
-IsUnread files name rose failed Usage = ⊥
-IsUnread files name rose failed (Session broken) = ⊥
-IsUnread files name rose failed (OpeningFloat float) = ⊥
 IsUnread files name rose failed OutOfMemory = Unit {0}
 IsUnread files name rose failed (ReadFault told) = (told ≡ name) × rose × (failed ≡ told)
-IsUnread files name rose failed WriteFault = ⊥
 IsUnread files name rose failed (TooLong told) = (told ≡ name) × HoldsMore files name MAX_FILE_BYTES
-IsUnread files name rose failed (Chain broken) = ⊥
+IsUnread files name rose failed other = ⊥
 
 -- why a chain was not lifted
 abbrev pub FailsToLift : SessionValue → Option (List File) → List ℕ → Type 0 → List ℕ → Cause → Type 0
-FailsToLift session files name rose failed Done = ⊥
-FailsToLift session files name rose failed Usage = ⊥
-FailsToLift session files name rose failed (Session broken) = ⊥
 FailsToLift session files name rose failed (OpeningFloat float) = float_kept session.design session.opening ≡ Some float
 FailsToLift session files name rose failed OutOfMemory = Unit {0}
 FailsToLift session files name rose failed (ReadFault told) = (told ≡ name) × (float_kept session.design session.opening ≡ None) × rose × (failed ≡ told)
-FailsToLift session files name rose failed WriteFault = ⊥
 FailsToLift session files name rose failed (TooLong told) = (told ≡ name) × (float_kept session.design session.opening ≡ None) × HoldsMore files name MAX_FILE_BYTES
 FailsToLift session files name rose failed (Chain broken) =
     (float_kept session.design session.opening ≡ None) × (chain : List ℕ) × HeldIn files name chain × (end_fault (cards_of session) chain ≡ Some broken)
+FailsToLift session files name rose failed other = ⊥
