@@ -10,5 +10,6 @@ pub mod looms;
 mod mail;
 mod plans;
 pub mod run;
+mod shares;
 pub mod shift;
 mod unread;

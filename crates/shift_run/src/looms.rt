@@ -6,11 +6,11 @@ ghost use Rattle.card_image.specs.Sets.{design_by};
 ghost use Rattle.loom_threads.specs.Looms.{Knows, LoomValue, repeat_from, missed_of, readings_of};
 ghost use Rattle.shift_run.specs.inner.Looms.{AllCanFinish, AllCanWeave, AllDid, AllFinished, AllReadied, CanFinish, CanWeave, DidFinish, DidPart, DidTurns, Fills, IsReadied, Keeps, part_at};
 
+use crate::shares::{threads_for, weave_each, weave_share};
 use loom_threads::loom::Loom;
-use mill_base::limits::MAX_LOOMS;
 use mill_io::gate::Gate;
 use shed_publish::desk_end::DeskEnd;
-use std::thread::{Threads, for_each_mut};
+use std::thread::Threads;
 use studio_core::tile_core::Core;
 
 /// What is kept of a loom from before its part of a shift: whether it was handed the published list, and how many repeats it had.
@@ -20,8 +20,8 @@ pub struct Part {
     pub start: u32,
 }
 
-// The part of a loom. Nothing is kept of a loom that there is none of.
-fn part_of(parts: &[Part], loom: usize) -> Part
+/// The part of a loom. Nothing is kept of a loom that there is none of.
+pub(crate) fn part_of(parts: &[Part], loom: usize) -> Part
     ensures { result ≡ part_at parts.now loom }
 {
     match parts.get(loom) {
@@ -33,8 +33,8 @@ fn part_of(parts: &[Part], loom: usize) -> Part
     }
 }
 
-// How many repeats a loom weaves in a shift.
-fn count_of(repeats: &[u32], loom: usize) -> u32
+/// How many repeats a loom weaves in a shift.
+pub(crate) fn count_of(repeats: &[u32], loom: usize) -> u32
     ensures { result ≡ slice_index repeats.now loom }
 {
     match repeats.get(loom) {
@@ -112,8 +112,8 @@ pub fn ready_all(looms: &mut Vec<Loom>, end: &mut DeskEnd, parts: &mut Vec<Part>
     }
 }
 
-// A loom's part of a shift: repeats of what it reads.
-fn weave_part<G: Gate>(loom: &mut Loom, shift: u32, count: u32, part: Part, gate: &G)
+/// A loom's part of a shift: repeats of what it reads.
+pub(crate) fn weave_part<G: Gate>(loom: &mut Loom, shift: u32, count: u32, part: Part, gate: &G)
     requires { CanWeave count part loom.old }
     ensures { DidPart shift count part loom.old loom.new }
 {
@@ -122,10 +122,11 @@ fn weave_part<G: Gate>(loom: &mut Loom, shift: u32, count: u32, part: Part, gate
     }
 }
 
-/// Each loom does its part, in a thread of its own where there is one. No loom waits.
+/// Each loom does its part, in as many threads as there is work for. `bytes` are those of a repeat. No loom waits.
 pub fn weave_all<R: Threads + Sync, G: Gate>(
     rt: &R,
     shift: u32,
+    bytes: u64,
     repeats: &[u32],
     parts: &[Part],
     looms: &mut Vec<Loom>,
@@ -134,11 +135,16 @@ pub fn weave_all<R: Threads + Sync, G: Gate>(
     requires { AllCanWeave repeats.now parts.now looms.old.items }
     ensures { AllDid shift repeats.now parts.now looms.old.items looms.new.items }
 {
-    let weave = |k: usize, loom: &mut Loom|
-        requires { CanWeave (slice_index repeats.now k) (part_at parts.now k) loom.now }
-        ensures { DidPart shift (slice_index repeats.entry.now k) (part_at parts.entry.now k) loom.entry.now loom.exit.now }
-    { weave_part(loom, shift, count_of(repeats, k), part_of(parts, k), gate) };
-    for_each_mut(rt, looms.as_mut_slice(), MAX_LOOMS as usize, &weave);
+    let threads = threads_for(rt, bytes, repeats, looms.len());
+    weave_share(
+        rt,
+        shift,
+        threads,
+        repeats,
+        parts,
+        looms.as_mut_slice(),
+        gate,
+    );
 }
 
 /// The looms do their parts one after another.
@@ -152,15 +158,7 @@ pub fn weave_in_turn<G: Gate>(
     requires { AllCanWeave repeats.now parts.now looms.old.items }
     ensures { AllDid shift repeats.now parts.now looms.old.items looms.new.items }
 {
-    'looms: for k in 0..looms.len() {
-        weave_part(
-            &mut looms[k],
-            shift,
-            count_of(repeats, k),
-            part_of(parts, k),
-            gate,
-        );
-    }
+    weave_each(shift, repeats, parts, looms.as_mut_slice(), gate);
 }
 
 // Keeps what a loom wove in the shift where what it read is the published list.

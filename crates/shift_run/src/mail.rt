@@ -38,6 +38,7 @@ pub type MailPass = Pass<Mail, ()>;
 /// A painter's end of the mail, with its pass of this mail.
 #[derive(Drop)]
 pub struct Painter {
+    pub painter: u32,
     pub to: MailTo,
     pub pass: MailPass,
     pub ghost seated: { IsSeatAt (sends_on to) pass },
@@ -52,20 +53,28 @@ impl Split<()> for Halves {
     ghost right = { λ v. v };
 }
 
-/// A mail with an end for each painter, and the foreman's end.
+/// A mail with an end for each painter of a shift that has acts, and the foreman's end.
 pub fn open_mail(
     alloc: Global,
-    painters: usize,
+    session: &Session,
+    shift: u32,
 ) -> Result<(Vec<Option<Painter>>, MailFrom, MailPass), OutOfMemory>
+    requires fits { Fits session.now }
+    requires shift { shift < length session.now.shifts }
     ensures seat { IfOk result (λ mail. IsSeatAt (receives_on mail.1) mail.2) }
-    ensures ends { IfOk result (λ mail. length mail.0.items ≡ painters) }
+    ensures ends { IfOk result (λ mail. length mail.0.items ≤ length (the_plan_of session.now shift).painters) }
 {
     let (to, from, mut pass) = bounded_with::<Mail, (), Free, Global>(alloc, WAITING)?;
-    let mut ends = Vec::with_capacity(alloc, painters)?;
-    'painters: for _ in 0..painters {
+    let mut ends = Vec::new(alloc);
+    let plan = plan_of(session, shift);
+    'painters: for painter in 0..plan.painters.len() as u32 {
+        if acts_of(plan, painter).is_empty() {
+            continue 'painters;
+        }
         let end = to.try_clone()?;
         let theirs = to.another::<Halves>(&mut pass);
         ends.push(Some(Painter {
+            painter,
             to: end,
             pass: theirs,
         }))?;

@@ -17,13 +17,12 @@ ghost use Rattle.shift_run.specs.inner.Shifts.{Leaves};
 ghost use Rattle.shift_run.specs.inner.Laws.{CardsLift, OpeningFirst, VersionsCount, VersionsStay};
 
 use crate::desk::Desk;
-use crate::foreman::direct;
+use crate::foreman::{direct, direct_plain};
 use crate::looms::{Part, finish_all, ready_all, weave_all};
 use crate::mail::{MailFrom, MailPass, Painter, open_mail, paint};
 use crate::plans::plan_of;
 use casting_out::casting::Casting;
 use loom_threads::loom::Loom;
-use mill_base::limits::MAX_PAINTERS;
 use mill_io::gate::Gate;
 use session_file::session::Session;
 use shed_publish::desk_end::DeskEnd;
@@ -32,13 +31,15 @@ use std::sync::Wait;
 use std::thread::{Threads, for_each_mut, join_mut};
 use studio_core::tile_core::Core;
 
-// A painter's part, by the number of the painter. It gives up its end of the mail.
+// So many threads painters share at the most: an act is soon prepared.
+const THREADS_OF_PAINTERS: usize = 2;
+
+// A painter's part. It gives up its end of the mail.
 fn paint_part<R: Wait, G: Gate>(
     rt: &R,
     alloc: Global,
     session: &Session,
     shift: u32,
-    painter: usize,
     end: &mut Option<Painter>,
     gate: &G,
 )
@@ -48,12 +49,13 @@ fn paint_part<R: Wait, G: Gate>(
     let Some(end) = end.take() else {
         return;
     };
-    if painter < plan_of(session, shift).painters.len() {
-        paint(rt, alloc, session, shift, painter as u32, end, gate);
+    let painter = end.painter;
+    if (painter as usize) < plan_of(session, shift).painters.len() {
+        paint(rt, alloc, session, shift, painter, end, gate);
     }
 }
 
-// Each painter does its part, in a thread of its own where there is one.
+// Each painter does its part, in two threads where there are two painters with acts.
 fn paint_all<R: Threads + Wait + Sync, G: Gate>(
     rt: &R,
     alloc: Global,
@@ -65,13 +67,108 @@ fn paint_all<R: Threads + Wait + Sync, G: Gate>(
     requires fits { Fits session.now }
     requires shift { shift < length session.now.shifts }
 {
-    let offer = |k: usize, end: &mut Option<Painter>|
+    let offer = |_: usize, end: &mut Option<Painter>|
         requires { Fits session.now × (shift < length session.now.shifts) }
-    { paint_part(rt, alloc, session, shift, k, end, gate) };
-    for_each_mut(rt, painters.as_mut_slice(), MAX_PAINTERS as usize, &offer);
+    { paint_part(rt, alloc, session, shift, end, gate) };
+    for_each_mut(rt, painters.as_mut_slice(), THREADS_OF_PAINTERS, &offer);
+}
+
+// The bytes of a repeat.
+fn bytes_of(session: &Session) -> u64 {
+    let row = session.design.tie.ends().div_ceil(8);
+    u64::from(session.design.size.picks).saturating_mul(u64::from(row))
+}
+
+// The looms' parts of a shift.
+fn weave_shift<R: Threads + Sync, G: Gate>(
+    rt: &R,
+    session: &Session,
+    shift: u32,
+    parts: &[Part],
+    looms: &mut Vec<Loom>,
+    gate: &G,
+)
+    requires shift { shift < length session.now.shifts }
+    requires looms { AllCanWeave (the_plan_of session.now shift).repeats parts.now looms.old.items }
+    ensures { AllDid shift (the_plan_of session.now shift).repeats parts.now looms.old.items looms.new.items }
+{
+    let repeats = plan_of(session, shift).repeats.as_slice();
+    weave_all(rt, shift, bytes_of(session), repeats, parts, looms, gate);
+}
+
+// Whether a loom weaves in a shift.
+fn has_repeats(session: &Session, shift: u32) -> bool
+    requires { shift < length session.now.shifts }
+{
+    let repeats = plan_of(session, shift).repeats.as_slice();
+    repeats.iter().any(|count| *count > 0)
 }
 
 // The foreman and the looms at the same time. Where no thread can be made a join runs its second closure first.
+fn direct_beside_looms<R: Threads + Wait + Sync, G: Gate>(
+    rt: &R,
+    alloc: Global,
+    session: &Session,
+    shift: u32,
+    from: &MailFrom,
+    pass: &mut MailPass,
+    desk: &mut Desk,
+    parts: &[Part],
+    looms: &mut Vec<Loom>,
+    gate: &G,
+) -> bool
+    requires fits { Fits session.now }
+    requires shift { shift < length session.now.shifts }
+    requires mail { IsSeatAt (receives_on from.now) pass.old }
+    requires design { desk.old.core.design ≡ session.now.design }
+    requires ready { IsReady desk.old }
+    requires room { acts_of_shift session.now shift ≤ desk.old.core.spare }
+    requires looms { AllCanWeave (the_plan_of session.now shift).repeats parts.now looms.old.items }
+    ensures foreman { Directs session.now shift desk.old desk.new result }
+    ensures looms { AllDid shift (the_plan_of session.now shift).repeats parts.now looms.old.items looms.new.items }
+{
+    let mut weave = || -> ()
+        requires { IsSync R.row × (shift < length session.now.shifts) × AllCanWeave (the_plan_of session.now shift).repeats parts.now looms.now.items }
+        ensures { AllDid shift (the_plan_of session.entry.now shift).repeats parts.entry.now looms.entry.now.items looms.exit.now.items }
+    { weave_shift(rt, session, shift, parts, looms, gate) };
+    let mut work = || -> bool
+        requires { Fits session.now × (shift < length session.now.shifts) × IsSeatAt (receives_on from.now) pass.now
+            × (desk.now.core.design ≡ session.now.design) × IsReady desk.now × (acts_of_shift session.now shift ≤ desk.now.core.spare) }
+        ensures { Directs session.entry.now shift desk.entry.now desk.exit.now result }
+    { direct(rt, alloc, session, shift, from, pass, desk, gate) };
+    let ((), all) = join_mut(rt, &mut weave, &mut work);
+    all
+}
+
+// The foreman, and then what looms without repeats have to do.
+fn direct_before_looms<R: Threads + Wait + Sync, G: Gate>(
+    rt: &R,
+    alloc: Global,
+    session: &Session,
+    shift: u32,
+    from: &MailFrom,
+    pass: &mut MailPass,
+    desk: &mut Desk,
+    parts: &[Part],
+    looms: &mut Vec<Loom>,
+    gate: &G,
+) -> bool
+    requires fits { Fits session.now }
+    requires shift { shift < length session.now.shifts }
+    requires mail { IsSeatAt (receives_on from.now) pass.old }
+    requires design { desk.old.core.design ≡ session.now.design }
+    requires ready { IsReady desk.old }
+    requires room { acts_of_shift session.now shift ≤ desk.old.core.spare }
+    requires looms { AllCanWeave (the_plan_of session.now shift).repeats parts.now looms.old.items }
+    ensures foreman { Directs session.now shift desk.old desk.new result }
+    ensures looms { AllDid shift (the_plan_of session.now shift).repeats parts.now looms.old.items looms.new.items }
+{
+    let all = direct(rt, alloc, session, shift, from, pass, desk, gate);
+    weave_shift(rt, session, shift, parts, looms, gate);
+    all
+}
+
+// The foreman, and the looms at the same time if any weaves.
 fn direct_and_weave<R: Threads + Wait + Sync, G: Gate>(
     rt: &R,
     alloc: Global,
@@ -94,23 +191,20 @@ fn direct_and_weave<R: Threads + Wait + Sync, G: Gate>(
     ensures foreman { Directs session.now shift desk.old desk.new result }
     ensures looms { AllDid shift (the_plan_of session.now shift).repeats parts.now looms.old.items looms.new.items }
 {
-    let repeats = plan_of(session, shift).repeats.as_slice();
-    let mut weave = || -> ()
-        requires { IsSync R.row × AllCanWeave repeats.now parts.now looms.now.items }
-        ensures { AllDid shift repeats.entry.now parts.entry.now looms.entry.now.items looms.exit.now.items }
-    { weave_all(rt, shift, repeats, parts, looms, gate) };
-    let mut work = || -> bool
-        requires { Fits session.now × (shift < length session.now.shifts) × IsSeatAt (receives_on from.now) pass.now
-            × (desk.now.core.design ≡ session.now.design) × IsReady desk.now × (acts_of_shift session.now shift ≤ desk.now.core.spare) }
-        ensures { Directs session.entry.now shift desk.entry.now desk.exit.now result }
-    { direct(rt, alloc, session, shift, from, pass, desk, gate) };
-    let ((), all) = join_mut(rt, &mut weave, &mut work);
-    all
+    if has_repeats(session, shift) {
+        direct_beside_looms(
+            rt, alloc, session, shift, from, pass, desk, parts, looms, gate,
+        )
+    } else {
+        direct_before_looms(
+            rt, alloc, session, shift, from, pass, desk, parts, looms, gate,
+        )
+    }
 }
 
-// The painters, the foreman and the looms at the same time. Where no thread can be made a join runs its second closure first, and the
+// The painters, and at the same time the foreman and the looms. Where no thread can be made a join runs its second closure first, and the
 // foreman waits for the painters: so the painters stand second.
-fn work_all<R: Threads + Wait + Sync, G: Gate>(
+fn work_in_threads<R: Threads + Wait + Sync, G: Gate>(
     rt: &R,
     alloc: Global,
     session: &Session,
@@ -148,6 +242,61 @@ fn work_all<R: Threads + Wait + Sync, G: Gate>(
     };
     let (all, ()) = join_mut(rt, &mut rest, &mut offer);
     all
+}
+
+// All acts in plain order, and then the looms' parts. Nothing is mailed.
+fn work_in_turn<R: Threads + Wait + Sync, G: Gate>(
+    rt: &R,
+    alloc: Global,
+    session: &Session,
+    shift: u32,
+    desk: &mut Desk,
+    parts: &[Part],
+    looms: &mut Vec<Loom>,
+    gate: &G,
+) -> bool
+    requires fits { Fits session.now }
+    requires shift { shift < length session.now.shifts }
+    requires design { desk.old.core.design ≡ session.now.design }
+    requires ready { IsReady desk.old }
+    requires room { acts_of_shift session.now shift ≤ desk.old.core.spare }
+    requires looms { AllCanWeave (the_plan_of session.now shift).repeats parts.now looms.old.items }
+    ensures foreman { Directs session.now shift desk.old desk.new result }
+    ensures looms { AllDid shift (the_plan_of session.now shift).repeats parts.now looms.old.items looms.new.items }
+{
+    let all = direct_plain(rt, alloc, session, shift, desk, gate);
+    weave_shift(rt, session, shift, parts, looms, gate);
+    all
+}
+
+// The painters, the foreman and the looms. Where nobody has acts, or one painter has and no loom weaves, nothing could go on beside it, and
+// the mail is not used.
+fn work_all<R: Threads + Wait + Sync, G: Gate>(
+    rt: &R,
+    alloc: Global,
+    session: &Session,
+    shift: u32,
+    mail: (Vec<Option<Painter>>, MailFrom, MailPass),
+    desk: &mut Desk,
+    parts: &[Part],
+    looms: &mut Vec<Loom>,
+    gate: &G,
+) -> bool
+    requires fits { Fits session.now }
+    requires shift { shift < length session.now.shifts }
+    requires mail { IsSeatAt (receives_on mail.1) mail.2 }
+    requires design { desk.old.core.design ≡ session.now.design }
+    requires ready { IsReady desk.old }
+    requires room { acts_of_shift session.now shift ≤ desk.old.core.spare }
+    requires looms { AllCanWeave (the_plan_of session.now shift).repeats parts.now looms.old.items }
+    ensures foreman { Directs session.now shift desk.old desk.new result }
+    ensures looms { AllDid shift (the_plan_of session.now shift).repeats parts.now looms.old.items looms.new.items }
+{
+    if mail.0.len() + usize::from(has_repeats(session, shift)) < 2 || mail.0.is_empty() {
+        work_in_turn(rt, alloc, session, shift, desk, parts, looms, gate)
+    } else {
+        work_in_threads(rt, alloc, session, shift, mail, desk, parts, looms, gate)
+    }
 }
 
 /// Tells a proof that the columns hang on hooks in rising order.
@@ -258,7 +407,7 @@ fn do_shift<R: Threads + Wait + Sync, G: Gate>(
     requires before { IsAtShift session.now shift desk.old looms.old.items }
     ensures { Leaves session.now shift desk.old desk.new looms.old.items looms.new.items result }
 {
-    let Ok(mail) = open_mail(alloc, plan_of(session, shift).painters.len()) else {
+    let Ok(mail) = open_mail(alloc, session, shift) else {
         return false;
     };
     let Ok(parts) = Vec::with_capacity(alloc, looms.len()) else {
@@ -274,8 +423,8 @@ pub struct ShiftEnd {
     pub out_of_memory: bool,
 }
 
-/// Runs a shift. Its painters, the foreman and the looms go on at the same time, in threads of their own where threads can be made. Whatever
-/// becomes of it, the log goes on from what it was.
+/// Runs a shift. Its painters, the foreman and the looms go on at the same time where threads can be made, in as many as there is work for.
+/// Whatever becomes of it, the log goes on from what it was.
 pub fn run_shift<R: Threads + Wait + Sync, G: Gate>(
     rt: &R,
     alloc: Global,

@@ -265,38 +265,101 @@ fn a_loom_begins_repeats_before_and_after_a_commit_of_its_shift(
     Ok(())
 }
 
-const MAILED: &str = "studio 1
+/// Acts of which the first painter's wait for those of the second, the first painter's number, and the report.
+const MAILED: [(&str, u32, &str); 2] = [
+    (
+        "repeats = [0]\nacts = [[\"commit\"], [\"commit\"]]",
+        0,
+        "studio 1
 design columns 2 picks 2 ends 2 hooks 2
 shift 0
 act 0 painter 1 number 1 accepted 1
 act 1 painter 0 number 1 accepted 2
 end versions 2
-";
+",
+    ),
+    // Beside painters without acts.
+    (
+        "repeats = [0]\nacts = [[], [\"commit\"], [\"commit\"], [], []]",
+        1,
+        "studio 1
+design columns 2 picks 2 ends 2 hooks 2
+shift 0
+act 0 painter 2 number 1 accepted 1
+act 1 painter 1 number 1 accepted 2
+end versions 2
+",
+    ),
+];
 
 // The first painter mails nothing until the second one's commit is at hand, which so comes by mail.
 #[test]
 fn a_painters_act_comes_by_mail_while_another_is_at_work(rt: HostRuntime) -> Result<(), Fail> {
-    let mail = Hold {
-        held: Point::BeforeMail {
-            shift: 0,
-            painter: 0,
-            number: 1,
-        },
-        until: Point::BeforeCommit { act: 0 },
+    for (acts, painter, wanted) in MAILED {
+        let mail = Hold {
+            held: Point::BeforeMail {
+                shift: 0,
+                painter,
+                number: 1,
+            },
+            until: Point::BeforeCommit { act: 0 },
+            turns: TURNS,
+        };
+        let gate = HeldGate::new(rt.alloc(), Vec::from_array(rt.alloc(), [mail])?)?;
+        let changes = [
+            ("show = \"rows\"", "show = \"digest\""),
+            ("repeats = [1]", acts),
+        ];
+        let text = session(&rt, rt.alloc(), &changes)?;
+        let report = woven(&rt, rt.alloc(), text.as_str(), &gate)?;
+        assert_eq!(rt; report.as_str(), wanted);
+        assert_eq!(rt; gate.ending(0), HoldEnd::ByPoint);
+    }
+    Ok(())
+}
+
+const TWO_LOOMS: Changes = &[
+    ("show = \"rows\"", "show = \"digest\""),
+    ("format = 1", "format = 1\nlooms = 4"),
+    (
+        "repeats = [1]",
+        "repeats = [0, 0, 0, 0]\nacts = [[\"commit\"]]\n[[shift]]\nrepeats = [2, 2, 0, 0]",
+    ),
+];
+
+const TWO_LOOMS_WOVE: &str = "studio 1
+design columns 2 picks 2 ends 2 hooks 2
+shift 0
+act 0 painter 0 number 1 accepted 1
+shift 1
+loom 0 repeat 0 version 1 sha256 607b306244cab5c6e8670d7525e1af04304b5d2c3a8a1ad791cb01de20e22117
+loom 0 repeat 1 version 1 sha256 607b306244cab5c6e8670d7525e1af04304b5d2c3a8a1ad791cb01de20e22117
+loom 1 repeat 0 version 1 sha256 607b306244cab5c6e8670d7525e1af04304b5d2c3a8a1ad791cb01de20e22117
+loom 1 repeat 1 version 1 sha256 607b306244cab5c6e8670d7525e1af04304b5d2c3a8a1ad791cb01de20e22117
+end versions 1
+";
+
+// In a shift that is not the first, each of two looms waits for a repeat of the other. One thread cannot do both.
+#[test]
+fn two_looms_weave_at_the_same_time(rt: HostRuntime) -> Result<(), Fail> {
+    let first = Hold {
+        held: Point::BeforeBegin { loom: 0, repeat: 0 },
+        until: Point::Began { loom: 1, repeat: 0 },
         turns: TURNS,
     };
-    let gate = HeldGate::new(rt.alloc(), Vec::from_array(rt.alloc(), [mail])?)?;
-    let changes = [
-        ("show = \"rows\"", "show = \"digest\""),
-        (
-            "repeats = [1]",
-            "repeats = [0]\nacts = [[\"commit\"], [\"commit\"]]",
-        ),
-    ];
-    let text = session(&rt, rt.alloc(), &changes)?;
+    let second = Hold {
+        held: Point::BeforeBegin { loom: 1, repeat: 1 },
+        until: Point::Began { loom: 0, repeat: 1 },
+        turns: TURNS,
+    };
+    let gate = HeldGate::new(rt.alloc(), Vec::from_array(rt.alloc(), [first, second])?)?;
+    let text = session(&rt, rt.alloc(), TWO_LOOMS)?;
     let report = woven(&rt, rt.alloc(), text.as_str(), &gate)?;
-    assert_eq!(rt; report.as_str(), MAILED);
-    assert_eq!(rt; gate.ending(0), HoldEnd::ByPoint);
+    assert_eq!(rt; report.as_str(), TWO_LOOMS_WOVE);
+    assert_eq!(rt;
+        (gate.ending(0), gate.ending(1)),
+        (HoldEnd::ByPoint, HoldEnd::ByPoint)
+    );
     Ok(())
 }
 
