@@ -1,0 +1,9 @@
+pub mod Acts
+pub mod Checking
+pub mod Counts
+pub mod Histories
+pub mod Keeping
+pub mod Moves
+pub mod Repeats
+pub mod Rows
+pub mod Versions
